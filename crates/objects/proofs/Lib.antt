@@ -1,0 +1,5 @@
+mod RowCode
+mod Pictures
+mod Deeds
+mod QueueLaw
+mod StackLaw

@@ -1,0 +1,5 @@
+mod Digits
+mod Cuts
+mod Turns
+mod Counts
+mod Lines
