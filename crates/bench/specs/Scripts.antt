@@ -5,7 +5,7 @@ use Rattle.memory.specs.Held.{opened}
 use Rattle.memory.specs.Kinds.{lazy, prompt}
 use Rattle.objects.specs.Model.{ObjectModel}
 use Rattle.objects.specs.Rows.{queue_model, stack_model}
-use Rattle.machine.specs.Calls.{begun}
+use Rattle.store.specs.Machine.{begun}
 use Rattle.script.specs.declared.call.Call.{Call}
 use Rattle.script.specs.declared.fault.Fault.{Fault}
 use Rattle.script.specs.declared.setup.Setup.{Setup}
@@ -17,7 +17,6 @@ use Rattle.script.specs.Faults.{fault_number}
 use Rattle.script.specs.Readings.{reading_of}
 use Rattle.listing.specs.Texts.{listing_text, fault_text}
 use Rattle.bench.specs.Runs.{outcomes}
-use Rattle.bench.specs.Promise.{RunExplained}
 
 abbrev pub model_of : ObjectKind → ObjectModel
 model_of Queue = queue_model
@@ -41,15 +40,3 @@ text_of (Err f) calls = fault_text (fault_number f.kind) f.line f.byte
 
 abbrev pub script_text : List ℕ → List ℕ
 script_text bytes = text_of (reading_of 512 bytes).result (reading_of 512 bytes).calls
-
--- one order explains the run of a script, as far as it has a run
-abbrev pub ExplainedOn : MemoryKind → ObjectModel → List Call → Type 0
-ExplainedOn Lazy X calls = RunExplained X lazy calls (begun X lazy (opened zeros))
-ExplainedOn Prompt X calls = RunExplained X prompt calls (begun X prompt zeros)
-
-abbrev pub ExplainedOf : Result Setup Fault → List Call → Type 0
-ExplainedOf (Ok s) calls = ExplainedOn s.memory (model_of s.object) calls
-ExplainedOf (Err f) calls = Unit {0}
-
-abbrev pub ScriptExplained : List ℕ → Type 0
-ScriptExplained bytes = ExplainedOf (reading_of 512 bytes).result (reading_of 512 bytes).calls

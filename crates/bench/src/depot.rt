@@ -1,9 +1,9 @@
 // The function for other programs: script bytes in, the listing or the fault out.
 ghost use Rattle.std.specs.Prelude.{◌≡◌, ◌≤◌, length};
 ghost use Rattle.listing.specs.Buffers.{written, filled};
-ghost use Rattle.bench.specs.Scripts.{run_text, text_on, model_of, script_text, ScriptExplained};
+ghost use Rattle.bench.specs.Scripts.{run_text, text_on, model_of, script_text};
 
-use crate::calls::run;
+use crate::run::run_calls;
 use bounded::Bounded;
 use listing::{Outcome, Plain};
 use memory::{Lazy, Memory, Prompt};
@@ -20,7 +20,7 @@ fn write_run<O: Object, M: Memory + Drop>(memory: M, calls: &[Call], out: &mut [
     let mut store: Store<O, M> = Store::over(memory);
     let mut list = [Outcome::Done(Plain::Start); 512];
     let mut outcomes = Bounded::new(&mut list);
-    let _ = run(&mut store, calls, &mut outcomes);
+    run_calls(&mut store, calls, &mut outcomes);
     listing::write_listing(outcomes.as_slice(), out)
 }
 
@@ -52,8 +52,9 @@ fn write_setup(setup: Setup, calls: &[Call], out: &mut [u8]) -> usize
     }
 }
 
-// Reads the script, and writes the listing or the fault.
-fn write_script(script: &[u8], out: &mut [u8]) -> usize
+// The listing or the fault at the start of `out`; or 1,000,036 with `out` untouched where it does not fit.
+#[unsafe(no_mangle)]
+pub extern "C" fn depot_run(script: &[u8], out: &mut [u8]) -> usize
     ensures value { result ≡ written (script_text script.now) out.old }
     ensures out { out.new ≡ filled (script_text script.now) out.old }
 {
@@ -68,21 +69,4 @@ fn write_script(script: &[u8], out: &mut [u8]) -> usize
             out,
         ),
     }
-}
-
-// One order of accepted requests explains what a script's run did.
-fn explain_script(_script: &[u8])
-    ensures { ScriptExplained _script.now }
-{}
-
-// The listing or the fault at the start of `out`; or 1,000,036 with `out` untouched where it does not fit. One order of
-// accepted requests explains every answer in the listing since the last accepted format.
-#[unsafe(no_mangle)]
-pub extern "C" fn depot_run(script: &[u8], out: &mut [u8]) -> usize
-    ensures value { result ≡ written (script_text script.now) out.old }
-    ensures out { out.new ≡ filled (script_text script.now) out.old }
-    ensures explained { ScriptExplained script.now }
-{
-    explain_script(script);
-    write_script(script, out)
 }

@@ -1,5 +1,5 @@
 // What can be asked of a bounded list, and how it grows.
-ghost use Rattle.std.specs.Prelude.{◌≡◌, ◌+◌, ◌-◌, ◌≤◌, [], ◌∷◌, ◌++◌, length, drop, if◌then◌else◌, nat_le, nat_lt};
+ghost use Rattle.std.specs.Prelude.{◌≡◌, ◌+◌, ◌≤◌, [], ◌∷◌, ◌++◌, length, drop, if◌then◌else◌, nat_le, nat_lt};
 ghost use Rattle.bounded.specs.Entries.{entries, room, spare, lender};
 
 use super::Bounded;
@@ -27,13 +27,6 @@ impl<'a, T> Bounded<'a, T> {
         ensures { result ≡ length (entries self.now) }
     {
         self.as_slice().len()
-    }
-
-    // How many entries more have room.
-    pub fn left(&self) -> usize
-        ensures { result ≡ room self.now - length (entries self.now) }
-    {
-        self.items.len() - self.len
     }
 
     // Whether one entry more has room.

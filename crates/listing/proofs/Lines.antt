@@ -12,11 +12,11 @@ use Rattle.listing.specs.Texts.{line_text, listing_text}
 abbrev pub line : List Outcome → ℕ → List ℕ
 line os i = line_text (get_or os i (Done Format))
 
-pub next_line : (os : List Outcome) (i : ℕ) → i < length os → listing_text (drop i os) ≡ line os i ++ listing_text (drop (i + 1) os)
-next_line os i h = at_drop_more listing_text os i (Done Format) h
+pub next-line : (os : List Outcome) (i : ℕ) → i < length os → listing_text (drop i os) ≡ line os i ++ listing_text (drop (i + 1) os)
+next-line os i h = at_drop_more listing_text os i (Done Format) h
 
-pub next_len : (os : List Outcome) (i : ℕ) → i < length os → length (listing_text (drop i os)) ≡ length (line os i) + length (listing_text (drop (i + 1) os))
-next_len os i h = ap length (next_line os i h) ∙ length-append (line os i) (listing_text (drop (i + 1) os))
+pub next-len : (os : List Outcome) (i : ℕ) → i < length os → length (listing_text (drop i os)) ≡ length (line os i) + length (listing_text (drop (i + 1) os))
+next-len os i h = ap length (next-line os i h) ∙ length-append (line os i) (listing_text (drop (i + 1) os))
 
 -- a length that was found is the length, and fits
 pub some_fits : (len most n : ℕ) → Some n ≡ cond (leb len most) (Some len) None → (len ≤ most) × (n ≡ len)

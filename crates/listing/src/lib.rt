@@ -5,5 +5,5 @@ mod output;
 mod tests;
 mod text;
 
-pub use outcome::{Answer, Outcome, Plain, Refused, Steps, Stopped, Turn, Wait};
+pub use outcome::{Outcome, Plain, Refused};
 pub use output::{write_fault, write_listing};

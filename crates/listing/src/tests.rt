@@ -1,6 +1,6 @@
 // Listings and faults in buffers that fit them, or not.
 use crate::{Outcome, Plain, Refused, write_fault, write_listing};
-use machine::Layer;
+use store::Layer;
 
 #[test]
 fn writes_each_line(rt: HostRuntime) {

@@ -1,11 +1,11 @@
 // The text of one line, written piece by piece into a lent byte list.
 ghost use Rattle.std.specs.Prelude.{◌≡◌, ◌+◌, ◌≤◌, ◌++◌, length, drop, if◌then◌else◌, decimal, nat_le};
 ghost use Rattle.bounded.specs.Entries.{entries, room, spare, lender};
-ghost use Rattle.listing.specs.Texts.{layer_text, plain_text, refused_text, answer_text, steps_text, stopped_text, outcome_text, line_text, fault_text};
+ghost use Rattle.listing.specs.Texts.{layer_text, plain_text, refused_text, outcome_text, line_text, fault_text};
 
-use crate::outcome::{Answer, Outcome, Plain, Refused, Steps, Stopped};
+use crate::outcome::{Outcome, Plain, Refused};
 use bounded::Bounded;
-use machine::Layer;
+use store::Layer;
 
 // Adds bytes that are known to fit.
 fn put(text: &mut Bounded<u8>, bytes: &[u8])
@@ -76,53 +76,6 @@ fn put_refused(text: &mut Bounded<u8>, refused: Refused)
     put_layer(text, refused.layer);
 }
 
-fn put_answer(text: &mut Bounded<u8>, answer: Answer)
-    requires { length (entries text.old) + 48 ≤ room text.old }
-    ensures text { entries text.new ≡ entries text.old ++ answer_text answer }
-    ensures room { room text.new ≡ room text.old }
-    ensures len { length (entries text.new) ≤ length (entries text.old) + 48 }
-{
-    put(text, b"answer ");
-    put_number(text, answer.code);
-    put(text, b" ");
-    put_number(text, answer.value);
-}
-
-fn put_steps(text: &mut Bounded<u8>, steps: Steps)
-    requires { length (entries text.old) + 46 ≤ room text.old }
-    ensures text { entries text.new ≡ entries text.old ++ steps_text steps }
-    ensures room { room text.new ≡ room text.old }
-    ensures len { length (entries text.new) ≤ length (entries text.old) + 46 }
-{
-    put(text, b"step ");
-    put_number(text, steps.count);
-    put(text, b" ");
-    put_number(text, steps.last);
-}
-
-fn put_stopped(text: &mut Bounded<u8>, stopped: Stopped)
-    requires { length (entries text.old) + 61 ≤ room text.old }
-    ensures text { entries text.new ≡ entries text.old ++ stopped_text stopped }
-    ensures room { room text.new ≡ room text.old }
-    ensures len { length (entries text.new) ≤ length (entries text.old) + 61 }
-{
-    put(text, b"step ");
-    put_number(text, stopped.count);
-    put(text, b" ");
-    put_refused(text, stopped.refusal);
-}
-
-// A word and then a turn.
-fn put_turn(text: &mut Bounded<u8>, word: &[u8], turn: u64)
-    requires { length (entries text.old) + length word.now + 20 ≤ room text.old }
-    ensures text { entries text.new ≡ entries text.old ++ (word.now ++ decimal turn) }
-    ensures room { room text.new ≡ room text.old }
-    ensures len { length (entries text.new) ≤ length (entries text.old) + length word.now + 20 }
-{
-    put(text, word);
-    put_number(text, turn);
-}
-
 // A line without its end has at most 63 bytes.
 fn put_outcome(text: &mut Bounded<u8>, outcome: Outcome)
     requires { length (entries text.old) + 63 ≤ room text.old }
@@ -132,11 +85,6 @@ fn put_outcome(text: &mut Bounded<u8>, outcome: Outcome)
 {
     match outcome {
         Outcome::Done(plain) => put_plain(text, plain),
-        Outcome::Answer(answer) => put_answer(text, answer),
-        Outcome::Turn(turn) => put_turn(text, b"turn ", turn.turn),
-        Outcome::Waiting(wait) => put_turn(text, b"waiting ", wait.turn),
-        Outcome::Steps(steps) => put_steps(text, steps),
-        Outcome::Stopped(stopped) => put_stopped(text, stopped),
         Outcome::Refused(refused) => put_refused(text, refused),
     }
 }

@@ -64,14 +64,14 @@ pow-bit_above i j h = let d = i - j - 1 in
     let p : 2 ^ i ≡ 2 ^ d * 2 * 2 ^ j = ap (λ k. 2 ^ k) (omega arith) ∙ pow-add 2 (d + 1) j ∙ ap (λ k. k * 2 ^ j) (pow-add 2 d 1) in
     rw p (rw (shl-shr (2 ^ d * 2) j) (omega arith))
 
-pow-bit-other : (i j : ℕ) → i ≢ j → bit (2 ^ i) j ≡ 0
-pow-bit-other i j ne = ⊎_elim (λ e. absurd (ne e)) (⊎_elim (pow-bit_below i j) (pow-bit_above i j)) (cases_order i j)
+pow-bit_other : (i j : ℕ) → i ≢ j → bit (2 ^ i) j ≡ 0
+pow-bit_other i j ne = ⊎_elim (λ e. absurd (ne e)) (⊎_elim (pow-bit_below i j) (pow-bit_above i j)) (cases_order i j)
 
 pub mem-pow : (i j : ℕ) → mem (2 ^ i) j ≡ eqb i j
 unfolding mem
 mem-pow i j = ⊎_elim (λ e. eq-eqb (bit (2 ^ i) j) 1 (subst (λ k. bit (2 ^ i) k ≡ 1) e (pow-bit-same i)) ∙ sym (eq-eqb i j e))
     (λ o. let ne : i ≢ j = ⊎_elim (λ (h : i < j) (e : i ≡ j). omega arith) (λ (h : j < i) (e : i ≡ j). omega arith) o in
-    ne_eqb (bit (2 ^ i) j) 1 (λ e. omega (arith, pow-bit-other i j ne)) ∙ sym (ne_eqb i j ne)) (cases_order i j)
+    ne_eqb (bit (2 ^ i) j) 1 (λ e. omega (arith, pow-bit_other i j ne)) ∙ sym (ne_eqb i j ne)) (cases_order i j)
 
 pub mem_with : (s i j : ℕ) → mem (with_line s i) j ≡ (mem s j || eqb i j)
 unfolding mem with_line
@@ -114,7 +114,7 @@ and_one s i = let e : 2 ^ (1 + i) - 2 ^ i ≡ 2 ^ i = omega (arith, pow-add 2 1 
 
 pub mem_xor : (s i j : ℕ) → i ≢ j → mem (bit_xor s (2 ^ i)) j ≡ mem s j
 unfolding mem
-mem_xor s i j ne = rw (bit-bit_xor, pow-bit-other i j ne) (ap (λ x. eqb x 1) (differ_none (bit s j)))
+mem_xor s i j ne = rw (bit-bit_xor, pow-bit_other i j ne) (ap (λ x. eqb x 1) (differ_none (bit s j)))
 
 pub xor_falls : (s i : ℕ) → mem s i ≡ true → bit_xor s (2 ^ i) < s
 unfolding mem

@@ -37,14 +37,20 @@ step_place s i l x y m = ⊎_elim
     (λ o. let ne : i ≢ l = ⊎_elim (λ (h : i < l) (e : i ≡ l). omega arith) (λ (h : l < i) (e : i ≡ l). omega arith) o in rw (mem_xor s i l ne, ne_eqb i l ne))
     (cases_order i l)
 
-pub copied-step : (s i : ℕ) (new old : List ℕ) → mem s i ≡ true → copied (bit_xor s (2 ^ i)) new (copied (2 ^ i) new old) ≡ copied s new old
-copied-step s i new old m = is_copied s new old _ (length-copied (bit_xor s (2 ^ i)) new (copied (2 ^ i) new old) ∙ length-copied (2 ^ i) new old)
+pub copied_step : (s i : ℕ) (new old : List ℕ) → mem s i ≡ true → copied (bit_xor s (2 ^ i)) new (copied (2 ^ i) new old) ≡ copied s new old
+copied_step s i new old m = is_copied s new old _ (length-copied (bit_xor s (2 ^ i)) new (copied (2 ^ i) new old) ∙ length-copied (2 ^ i) new old)
     (λ a h. let k : a < length (copied (2 ^ i) new old) = omega (arith, length-copied (2 ^ i) new old) in
     get_or-copied (bit_xor s (2 ^ i)) new (copied (2 ^ i) new old) a k
     ∙ ap (λ x. cond (mem (bit_xor s (2 ^ i)) (a / 8)) (get_or new a 0) x) (get_or-copied (2 ^ i) new old a h ∙ ap (λ b. cond b (get_or new a 0) (get_or old a 0)) (mem-pow i (a / 8)))
     ∙ step_place s i (a / 8) (get_or new a 0) (get_or old a 0) m)
 
 -- the front of a copy is the copy of the fronts
+pub take-copied : (n s : ℕ) (new old : List ℕ) → n ≤ length old → take n (copied s new old) ≡ copied s (take n new) (take n old)
+take-copied n s new old h = is_copied s (take n new) (take n old) _ (simp (length-take, length-copied))
+    (λ a k. let l : a < n = omega (arith, length-take n old) in let q : a < length old = omega arith in
+    get_or-take n (copied s new old) a 0 l ∙ get_or-copied s new old a q
+    ∙ rw (get_or-take n new a 0 l, get_or-take n old a 0 l))
+
 -- what lies past the lines of a set stays
 pub drop-copied : (n s : ℕ) (new old : List ℕ) → s < 2 ^ n → drop (8 * n) (copied s new old) ≡ drop (8 * n) old
 drop-copied n s new old h = ext_get_or 0 _ _ (simp (length-drop, length-copied))
@@ -52,15 +58,15 @@ drop-copied n s new old h = ext_get_or 0 _ _ (simp (length-drop, length-copied))
     let m : n ≤ (8 * n + a) / 8 = omega arith in
     rw (get_or-drop, get_or-drop, get_or-copied s new old (8 * n + a) l, mem_past s n ((8 * n + a) / 8) h m))
 
-set-place : (a v : ℕ) (xs : List ℕ) (b : ℕ) → (b ≡ a) ⊎ ((b < a) ⊎ (a < b)) → get_or (set xs a v) b 0 ≡ cond (eqb (a / 8) (b / 8)) (get_or (set xs a v) b 0) (get_or xs b 0)
-set-place a v xs b (inl e) = rw (eq-eqb (a / 8) (b / 8) (ap (λ k. k / 8) (sym e)))
-set-place a v xs b (inr o) = let ne : b ≢ a = ⊎_elim (λ (h : b < a) (e : b ≡ a). omega arith) (λ (h : a < b) (e : b ≡ a). omega arith) o in
+set_place : (a v : ℕ) (xs : List ℕ) (b : ℕ) → (b ≡ a) ⊎ ((b < a) ⊎ (a < b)) → get_or (set xs a v) b 0 ≡ cond (eqb (a / 8) (b / 8)) (get_or (set xs a v) b 0) (get_or xs b 0)
+set_place a v xs b (inl e) = rw (eq-eqb (a / 8) (b / 8) (ap (λ k. k / 8) (sym e)))
+set_place a v xs b (inr o) = let ne : b ≢ a = ⊎_elim (λ (h : b < a) (e : b ≡ a). omega arith) (λ (h : a < b) (e : b ≡ a). omega arith) o in
     rw (get_or-set_other xs a b v 0 ne) (elim (eqb (a / 8) (b / 8)) as (λ t. get_or xs b 0 ≡ cond t (get_or xs b 0) (get_or xs b 0)) [ true ↦ refl | false ↦ refl ])
 
 -- one word changed, and its line copied
 pub copied-set : (a v : ℕ) (xs : List ℕ) → copied (2 ^ (a / 8)) (set xs a v) xs ≡ set xs a v
 copied-set a v xs = sym (is_copied (2 ^ (a / 8)) (set xs a v) xs (set xs a v) (length-set xs a v)
-    (λ b h. rw mem-pow (set-place a v xs b (cases_order b a))))
+    (λ b h. rw mem-pow (set_place a v xs b (cases_order b a))))
 
 -- a list with one line of `new` and the rest of `old`
 pub line-copied : (i : ℕ) (new old xs : List ℕ) → length xs ≡ length old

@@ -1,9 +1,8 @@
 -- What the parts that a module holds mean: its lines, arrivals, writes, a cut, and the end of the loan.
-use Rattle.std.proofs.Common.{◌≡◌, ℕ, ◌+◌, ◌-◌, ◌*◌, ◌/◌, ◌^◌, ◌<◌, ◌≤◌, true, cond, eqb, ltb, List, ◌++◌, length, get_or, take, drop, set, sym, refl, ap, ◌∙◌, subst, arith, take-append-drop, length-take, get_or-take}
+use Rattle.std.proofs.Common.{◌≡◌, ℕ, ◌+◌, ◌-◌, ◌*◌, ◌/◌, ◌^◌, ◌<◌, ◌≤◌, Bool, true, false, cond, eqb, List, ◌++◌, length, get_or, take, drop, set, sym, refl, ap, ◌∙◌, subst, arith, take-append-drop, length-take, get_or-take}
 use lib.Bits.{bit_and}
 use lib.Seq.{take-set-lt}
 use Rattle.std.proofs.lemmas.List.{ext_get_or, set-append_left}
-use Rattle.std.proofs.lemmas.Bool.{ltb-true}
 use base.Fml.{GName}
 use Rattle.memory.specs.Sets.{mem, minus, with_line}
 use Rattle.memory.specs.Model.{MemoryModel, Adds, none, copied, arrivals, lines, put, cut}
@@ -35,15 +34,15 @@ framed-copied g s cur mem h =
 pub held-lines : (cur mem : List ℕ) (a d l : ℕ) → lines (held cur mem a d l) ≡ line_count (length mem)
 held-lines cur mem a d l = simp length-take (omega arith)
 
-pub held-formed : (cur mem : List ℕ) (a d l : ℕ) → length cur ≡ 512 → Formed (held cur mem a d l)
-held-formed cur mem a d l s = let e = held-lines cur mem a d l in record {
+pub held_formed : (cur mem : List ℕ) (a d l : ℕ) → length cur ≡ 512 → Formed (held cur mem a d l)
+held_formed cur mem a d l s = let e = held-lines cur mem a d l in record {
   images = simp length-take (omega arith);
   whole = simp length-take (omega arith);
   few = omega arith;
 }
 
-pub opened-formed : (mem : List ℕ) → Formed (opened mem)
-opened-formed mem = let e = held-lines mem mem 0 0 0 in record {
+pub opened_formed : (mem : List ℕ) → Formed (opened mem)
+opened_formed mem = let e = held-lines mem mem 0 0 0 in record {
   images = refl;
   whole = simp length-take (omega arith);
   few = omega arith;
@@ -53,8 +52,8 @@ pub adds_same : (m n : MemoryModel) → n ≡ m → Adds m n
 adds_same m n e = subst (λ (k : MemoryModel). Adds m k) (sym e) none
 
 -- a word inside lies in the first words of both
-pub word_in : (mem : List ℕ) (w : ℕ) → ltb w (length (front mem mem)) ≡ true → w < 8 * line_count (length mem)
-word_in mem w h = omega (arith, ltb-true w (length (front mem mem)) h, length-take (8 * line_count (length mem)) mem)
+pub word_in : (cur mem : List ℕ) (a d l w : ℕ) → w / 8 < lines (held cur mem a d l) → w < 8 * line_count (length mem)
+word_in cur mem a d l w h = let e = held-lines cur mem a d l in omega arith
 
 pub read-front : (cur mem : List ℕ) (w : ℕ) → w < 8 * line_count (length mem) → get_or (take (8 * line_count (length mem)) cur) w 0 ≡ get_or cur w 0
 read-front cur mem w h = get_or-take (8 * line_count (length mem)) cur w 0 h
@@ -75,8 +74,12 @@ pub loan_back : (x now was ys : List ℕ) (g h : GName) → (h ≡ g → x ≡ n
 loan_back x now was ys g h f e k = f (sym (ap (λ (q : Frame). q.lender) e)) ∙ sym (take-append-drop (8 * line_count (length now)) now)
     ∙ ap (λ (zs : List ℕ). zs ++ beyond now) k ∙ ap (λ (q : Frame). ys ++ q.rest) e
 
-pub loan_set : (x now was : List ℕ) (g h : GName) (w v : ℕ) → (h ≡ g → x ≡ now) → framed g now ≡ framed h was → w < 8 * line_count (length was)
-    → front now now ≡ set (front was was) w v → x ≡ set was w v
-loan_set x now was g h w v f e i k = loan_back x now was (set (front was was) w v) g h f e k
+pub loan_no : (x now was ys : List ℕ) (g h : GName) (b : Bool) → b ≡ false → (h ≡ g → x ≡ now) → framed g now ≡ framed h was → front now now ≡ front was was → x ≡ cond b ys was
+loan_no x now was ys g h b out f e k = loan_back x now was (front was was) g h f e k ∙ take-append-drop (8 * line_count (length was)) was ∙ ap (λ z. cond z ys was) (sym out)
+
+pub loan_set : (x now was : List ℕ) (g h : GName) (w v : ℕ) (b : Bool) → b ≡ true → (h ≡ g → x ≡ now) → framed g now ≡ framed h was → w < 8 * line_count (length was)
+    → front now now ≡ set (front was was) w v → x ≡ cond b (set was w v) was
+loan_set x now was g h w v b inside f e i k = loan_back x now was (set (front was was) w v) g h f e k
     ∙ sym (set-append_left (front was was) (beyond was) w v (simp length-take (omega arith)))
     ∙ ap (λ (zs : List ℕ). set zs w v) (take-append-drop (8 * line_count (length was)) was)
+    ∙ ap (λ z. cond z (set was w v) was) (sym inside)

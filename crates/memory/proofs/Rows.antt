@@ -1,12 +1,8 @@
 -- Rows of calls, one after another.
-use Rattle.std.proofs.Common.{◌≡◌, ℕ, suc, ◌+◌, ◌-◌, ◌<◌, true, cond, List, [], ◌∷◌, ◌++◌, length, get_or, drop, replicate, sym, refl, ap, ◌∙◌, arith}
+use Rattle.std.proofs.Common.{◌≡◌, ℕ, suc, ◌+◌, ◌-◌, ◌<◌, List, [], ◌∷◌, ◌++◌, length, get_or, drop, replicate, sym, refl, ap, ◌∙◌, arith}
 use Rattle.std.proofs.lemmas.List.{drop_more}
-use Rattle.memory.specs.Calls.{Call, accepts, writes, asks, each_word, each_line}
+use Rattle.memory.specs.Calls.{Call, writes, asks, each_word, each_line}
 use Rattle.memory.specs.Conduct.{Conduct, after_call, after_calls}
-
--- where an accepted call leads
-pub after_yes : (C : Conduct) (c : Call) (s t : C.State) → accepts c (C.model s) ≡ true → t ≡ C.does c s → t ≡ after_call C c s
-after_yes C c s t a e = e ∙ ap (λ b. cond b (C.does c s) s) (sym a)
 
 pub calls_join : (C : Conduct) (cs ds : List Call) (s : C.State) → after_calls C (cs ++ ds) s ≡ after_calls C ds (after_calls C cs s)
 calls_join C [] ds s = refl
@@ -17,9 +13,9 @@ words_join a [] ys = ap (λ b. each_word b ys) (omega arith)
 words_join a (x ∷ xs) ys = ap (λ cs. writes a x ∷ cs) (words_join (a + 1) xs ys ∙ ap (λ b. each_word (a + 1) xs ++ each_word b ys) (omega arith))
 
 -- words and then more words
-pub after-words : (C : Conduct) (a : ℕ) (xs ys : List ℕ) (s : C.State)
+pub after_words : (C : Conduct) (a : ℕ) (xs ys : List ℕ) (s : C.State)
     → after_calls C (each_word a (xs ++ ys)) s ≡ after_calls C (each_word (a + length xs) ys) (after_calls C (each_word a xs) s)
-after-words C a xs ys s = ap (λ cs. after_calls C cs s) (words_join a xs ys) ∙ calls_join C (each_word a xs) (each_word (a + length xs) ys) s
+after_words C a xs ys s = ap (λ cs. after_calls C cs s) (words_join a xs ys) ∙ calls_join C (each_word a xs) (each_word (a + length xs) ys) s
 
 -- one call more of what is left
 pub words_step : (C : Conduct) (from i : ℕ) (ws : List ℕ) (s t : C.State) → i < length ws → t ≡ after_call C (writes (from + i) (get_or ws i 0)) s
@@ -30,9 +26,9 @@ words_step C from i ws s t h e =
     ∙ ap (λ x. after_calls C (each_word (from + i + 1) (drop (i + 1) ws)) x) e
     ∙ ap (λ vs. after_calls C (each_word (from + i) vs) s) (sym (drop_more ws i 0 h))
 
-pub zeros-step : (C : Conduct) (from i n : ℕ) (s t : C.State) → i < n → t ≡ after_call C (writes (from + i) 0) s
+pub zeros_step : (C : Conduct) (from i n : ℕ) (s t : C.State) → i < n → t ≡ after_call C (writes (from + i) 0) s
     → after_calls C (each_word (from + (i + 1)) (replicate (n - (i + 1)) 0)) t ≡ after_calls C (each_word (from + i) (replicate (n - i) 0)) s
-zeros-step C from i n s t h e =
+zeros_step C from i n s t h e =
     let a : from + (i + 1) ≡ from + i + 1 = omega arith in
     let k : suc (n - (i + 1)) ≡ n - i = omega arith in
     ap (λ b. after_calls C (each_word b (replicate (n - (i + 1)) 0)) t) a

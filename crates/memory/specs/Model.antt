@@ -42,21 +42,17 @@ way i m = cond (mem m.due i) (arrivals m.due m) m
 abbrev pub write : ℕ → ℕ → MemoryModel → MemoryModel
 write a v m = put a v (way (a / 8) m)
 
-abbrev pub with_sets : ℕ → ℕ → ℕ → MemoryModel → MemoryModel
-with_sets asked due late m = record { current = m.current; kept = m.kept; asked = asked; due = due; late = late }
-
 abbrev pub ask : ℕ → MemoryModel → MemoryModel
-ask i m = with_sets (with_line m.asked i) m.due m.late m
+ask i m = record { current = m.current; kept = m.kept; asked = with_line m.asked i; due = m.due; late = m.late }
 
--- the due lines arrive; then what is left of the asked ones is due
 abbrev pub fence : MemoryModel → MemoryModel
-fence m = let n = arrivals m.due m in with_sets 0 n.asked 0 n
+fence m = record { current = m.current; kept = (arrivals m.due m).kept; asked = 0; due = (arrivals m.due m).asked; late = 0 }
 
 abbrev pub brought : MemoryModel → MemoryModel
 brought m = arrivals m.asked m
 
 abbrev pub sync : MemoryModel → MemoryModel
-sync m = with_sets 0 0 0 (brought (arrivals m.due m))
+sync m = record { current = m.current; kept = (brought (arrivals m.due m)).kept; asked = 0; due = 0; late = 0 }
 
 abbrev pub cut : MemoryModel → MemoryModel
 cut m = record { current = m.kept; kept = m.kept; asked = 0; due = 0; late = 0 }

@@ -15,12 +15,9 @@ inside_line i m = nat_lt i (lines m)
 abbrev pub word_at : ℕ → MemoryModel → Result ℕ Refusal
 word_at a m = cond (inside_word a m) (Ok (slice_index m.current a)) (Err Outside)
 
--- how many lines three sets have
-abbrev pub counts_of : ℕ → ℕ → ℕ → Counts
-counts_of asked due late = record { asked = count_ones asked; due = count_ones due; late = count_ones late }
-
+-- how many lines are asked, due and late
 abbrev pub counted : MemoryModel → Counts
-counted m = counts_of m.asked m.due m.late
+counted m = record { asked = count_ones m.asked; due = count_ones m.due; late = count_ones m.late }
 
 -- power is cut: arrivals may be added first
 abbrev pub CutTo : MemoryModel → MemoryModel → Type 0

@@ -1,6 +1,4 @@
 // How many lines of a memory module are asked, due and late.
-mod ones;
-
 #[derive(Clone, Copy)]
 pub struct Counts {
     pub asked: u32,

@@ -5,9 +5,11 @@ mod module;
 mod prompt;
 mod refusal;
 mod sets;
+mod worked;
 
 pub use counts::Counts;
 pub use lazy::{Lazy, store_word};
 pub use module::Memory;
 pub use prompt::Prompt;
 pub use refusal::Refusal;
+pub use worked::examples_hold;

@@ -1,7 +1,7 @@
 // What every memory module answers and leaves; its `conduct` says which arrivals it adds, and keeps the rules.
 ghost use Rattle.std.specs.Prelude.{◌≡◌};
 ghost use Rattle.memory.specs.Model.{lines};
-ghost use Rattle.memory.specs.Post.{Formed, inside_word, inside_line, word_at, counted};
+ghost use Rattle.memory.specs.Post.{Formed, word_at, counted};
 ghost use Rattle.memory.specs.Calls.{reply, writes, asks, fences, syncs, arrives};
 ghost use Rattle.memory.specs.Conduct.{Conduct, Keeps, after_call};
 ghost use Rattle.memory.specs.Held.{Frame};
@@ -22,20 +22,6 @@ pub trait Memory {
         ensures count { result ≡ lines (conduct.model (meaning self.now)) }
         ensures formed { Formed (conduct.model (meaning self.now)) }
         ensures keeps { Keeps conduct };
-
-    // whether a word is inside
-    fn has_word(&self, word: usize) -> bool
-        ensures { result ≡ inside_word word (conduct.model (meaning self.now)) }
-    {
-        word / 8 < self.lines()
-    }
-
-    // whether a line is inside
-    fn has_line(&self, line: usize) -> bool
-        ensures { result ≡ inside_line line (conduct.model (meaning self.now)) }
-    {
-        line < self.lines()
-    }
 
     fn counts(&self) -> Counts
         ensures { result ≡ counted (conduct.model (meaning self.now)) };

@@ -1,9 +1,6 @@
 // The prompt memory module: a line arrives as soon as it is written or asked, so nothing is ever on its way.
-ghost use Rattle.std.specs.Prelude.{◌≡◌, true, slice_index, slice_set};
-ghost use Rattle.memory.specs.Model.{lines};
-ghost use Rattle.memory.specs.Post.{Formed, inside_word};
-ghost use Rattle.memory.specs.Conduct.{Keeps};
-ghost use Rattle.memory.specs.Held.{opened, framed};
+ghost use Rattle.std.specs.Prelude.{◌≡◌};
+ghost use Rattle.memory.specs.Held.{framed};
 ghost use Rattle.memory.specs.Kinds.{prompt};
 
 use crate::counts::Counts;
@@ -25,34 +22,6 @@ impl<'a> Prompt<'a> {
     }
 }
 
-impl Prompt<'_> {
-    // Writes a word that is inside.
-    fn put(&mut self, word: usize, value: u64)
-        requires { inside_word word (opened self.old.words.now) ≡ true }
-        ensures after { self.new.words.now ≡ slice_set self.old.words.now word value }
-        ensures lent { framed self.new.words.ghost_name self.new.words.now ≡ framed self.old.words.ghost_name self.old.words.now }
-    {
-        self.words[word] = value;
-    }
-
-    // A word that is inside.
-    fn word(&self, word: usize) -> u64
-        requires { inside_word word (opened self.now.words.now) ≡ true }
-        ensures { result ≡ slice_index (opened self.now.words.now).current word }
-    {
-        self.words[word]
-    }
-
-    // The number of lines; a prompt module is well formed, and adds only allowed arrivals.
-    fn line_total(&self) -> usize
-        ensures count { result ≡ lines (opened self.now.words.now) }
-        ensures formed { Formed (opened self.now.words.now) }
-        ensures keeps { Keeps prompt }
-    {
-        sets::line_count(self.words.len())
-    }
-}
-
 impl Memory for Prompt<'_> {
     ghost conduct = { prompt };
 
@@ -61,30 +30,34 @@ impl Memory for Prompt<'_> {
     ghost frame = { λ s. framed s.words.ghost_name s.words.now };
 
     fn lines(&self) -> usize {
-        self.line_total()
+        sets::line_count(self.words.len())
     }
 
     fn counts(&self) -> Counts {
-        Counts::of(0, 0, 0)
+        Counts {
+            asked: 0,
+            due: 0,
+            late: 0,
+        }
     }
 
     fn read(&self, word: usize) -> Result<u64, Refusal> {
-        if !self.has_word(word) {
+        if word / 8 >= self.lines() {
             return Err(Refusal::Outside);
         }
-        Ok(self.word(word))
+        Ok(self.words[word])
     }
 
     fn write(&mut self, word: usize, value: u64) -> Result<(), Refusal> {
-        if !self.has_word(word) {
+        if word / 8 >= self.lines() {
             return Err(Refusal::Outside);
         }
-        self.put(word, value);
+        self.words[word] = value;
         Ok(())
     }
 
     fn ask(&mut self, line: usize) -> Result<(), Refusal> {
-        if !self.has_line(line) {
+        if line >= self.lines() {
             return Err(Refusal::Outside);
         }
         Ok(())
@@ -95,7 +68,7 @@ impl Memory for Prompt<'_> {
     fn sync(&mut self) {}
 
     fn arrive(&mut self, line: usize) -> Result<(), Refusal> {
-        if !self.has_line(line) {
+        if line >= self.lines() {
             return Err(Refusal::Outside);
         }
         Ok(())

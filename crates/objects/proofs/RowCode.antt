@@ -53,15 +53,15 @@ module _ (xs : List ℕ) (n : ℕ) (within : n ≤ length xs) (few : n ≤ 32) w
       ∙ ap (λ (k : ℕ). drop 1 (take k xs)) (sym e)
       ∙ ap (drop 1) (sym whole))
 
-  pub pictured-made : (ys : List ℕ) → ys ≡ take (n - 0) xs → n ∷ (ys ++ drop ((n + 1) - 1) (replicate 39 0)) ≡ pictured (take 32 (take n xs))
-  pictured-made ys e =
+  pub pictured_made : (ys : List ℕ) → ys ≡ take (n - 0) xs → n ∷ (ys ++ drop ((n + 1) - 1) (replicate 39 0)) ≡ pictured (take 32 (take n xs))
+  pictured_made ys e =
       let l = counted in let w = whole in
       let a : (n + 1) - 1 ≡ n = omega arith in
       let b : n - 0 ≡ n = omega arith in
       simp (e, a, b, w, l, drop-replicate)
 
-pub zeros-step : (xs : List ℕ) (i : ℕ) → i < length xs → get_or xs i 0 ≡ 0 → zeros (drop (i + 1) xs) ≡ zeros (drop i xs)
-zeros-step xs i h e =
+pub zeros_step : (xs : List ℕ) (i : ℕ) → i < length xs → get_or xs i 0 ≡ 0 → zeros (drop (i + 1) xs) ≡ zeros (drop i xs)
+zeros_step xs i h e =
     let d : zeros (drop i xs) ≡ cond (eqb (get_or xs i 0) 0) (zeros (drop (i + 1) xs)) false = at_drop_more zeros xs i 0 h in
     sym (d ∙ cond-true _ _ _ (eq-eqb _ 0 e))
 
@@ -80,8 +80,8 @@ module _ (ws : List ℕ) (long : length ws ≡ 40) (low : get_or ws 0 0 ≤ 32) 
       let d : take (40 - (get_or ws 0 0 + 1)) (drop (get_or ws 0 0 + 1) ws) ≡ drop (get_or ws 0 0 + 1) ws = take_all (40 - (get_or ws 0 0 + 1)) (drop (get_or ws 0 0 + 1) ws) k in
       cond-true _ _ _ a ∙ cond-true _ _ _ b ∙ sym (e ∙ ap zeros d)
 
-  pub no-picture : {X : Type 0} (x y : X) → false ≡ zeros (take (40 - (get_or ws 0 0 + 1)) (drop (get_or ws 0 0 + 1) ws)) → y ≡ cond (is_picture ws) x y
-  no-picture x y e = sym (cond-false _ _ _ (by_zeros false e))
+  pub no_picture : {X : Type 0} (x y : X) → false ≡ zeros (take (40 - (get_or ws 0 0 + 1)) (drop (get_or ws 0 0 + 1) ws)) → y ≡ cond (is_picture ws) x y
+  no_picture x y e = sym (cond-false _ _ _ (by_zeros false e))
 
   pub yes_picture : {X : Type 0} (x y : X) → true ≡ zeros (take (40 - (get_or ws 0 0 + 1)) (drop (get_or ws 0 0 + 1) ws)) → x ≡ cond (is_picture ws) x y
   yes_picture x y e = sym (cond-true _ _ _ (by_zeros true e))

@@ -14,9 +14,9 @@ same_entries s t p = λ i. record { items = p i; few = is_prop→PathP (λ j. le
 clip-whole : (s : Entries) → clip s.items ≡ s
 clip-whole s = same_entries (clip s.items) s (take_all 32 s.items s.few)
 
-zeros-made : (n : ℕ) → zeros (replicate n 0) ≡ true
-zeros-made zero = refl
-zeros-made (suc n) = zeros-made n
+zeros_made : (n : ℕ) → zeros (replicate n 0) ≡ true
+zeros_made zero = refl
+zeros_made (suc n) = zeros_made n
 
 zeros_are : (xs : List ℕ) → zeros xs ≡ true → xs ≡ replicate (length xs) 0
 zeros_are [] h = refl
@@ -33,14 +33,14 @@ module _ (s : Entries) where
   past_entries : drop (length s.items + 1) (pictured s.items) ≡ replicate (39 - length s.items) 0
   past_entries = rw add-one (drop_at s.items (replicate (39 - length s.items) 0) (length s.items) refl)
 
-  pub pictured_long : length (pictured s.items) ≡ 40
-  pictured_long = let h = s.few in simp (length-append, length-replicate) (omega arith)
+  pub pictured-long : length (pictured s.items) ≡ 40
+  pictured-long = let h = s.few in simp (length-append, length-replicate) (omega arith)
 
   pictured_is : is_picture (pictured s.items) ≡ true
   pictured_is =
-      cond-true _ _ _ (eq-eqb (length (pictured s.items)) 40 pictured_long)
+      cond-true _ _ _ (eq-eqb (length (pictured s.items)) 40 pictured-long)
       ∙ cond-true _ _ _ (le-leb (length s.items) 32 s.few)
-      ∙ ap zeros past_entries ∙ zeros-made (39 - length s.items)
+      ∙ ap zeros past_entries ∙ zeros_made (39 - length s.items)
 
   pub reads-back : read (pictured s.items) ≡ Some s
   reads-back =
@@ -72,8 +72,8 @@ passed ws h =
         let q : take w ws ++ replicate (39 - length (take w ws)) 0 ≡ ws = ap (λ (r : List ℕ). take w ws ++ r) (sym t) ∙ p in
         (sym (ap (λ (r : List ℕ). length (take w ws) ∷ r) q ∙ ap (λ (v : ℕ). v ∷ ws) k), omega arith)
 
-pub only-pictures : (ws : List ℕ) (s : Entries) → read ws ≡ Some s → ws ≡ pictured s.items
-only-pictures ws s h =
+pub only_pictures : (ws : List ℕ) (s : Entries) → read ws ≡ Some s → ws ≡ pictured s.items
+only_pictures ws s h =
     elim (cases_Bool (is_picture ws)) [
       | inl e ↦ (let p = passed ws e in
           let a : Some (clip (named ws)) ≡ Some s = sym (cond-true _ _ _ e) ∙ h in

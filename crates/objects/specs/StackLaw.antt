@@ -20,15 +20,15 @@ module _ (xs : List ℕ) (x : ℕ) where
   before_last : length (xs ++ (x ∷ [])) - 1 ≡ length xs
   before_last = simp length_push (omega arith)
 
-  newest-last : newest (xs ++ (x ∷ [])) ≡ Done x
-  newest-last =
+  newest_last : newest (xs ++ (x ∷ [])) ≡ Done x
+  newest_last =
       let b = before_last in
       let some : nat_eq (length (xs ++ (x ∷ []))) 0 ≡ false = ne_eqb (length (xs ++ (x ∷ []))) 0 (λ z. omega (arith, length_push xs x)) in
       let last : slice_index_or (xs ++ (x ∷ [])) (length xs) 0 ≡ x = get_or_push xs x 0 (length xs) refl in
       simp (some, b, last)
 
-  but_newest-last : but_newest (xs ++ (x ∷ [])) ≡ xs
-  but_newest-last = let b = before_last in rw b (take_at xs (x ∷ []) (length xs) refl)
+  but_newest_last : but_newest (xs ++ (x ∷ [])) ≡ xs
+  but_newest_last = let b = before_last in rw b (take_at xs (x ∷ []) (length xs) refl)
 
 -- a balanced row of events leaves what was left before it
 still_left : {es bs : List Event} {xs : List ℕ} → Leaves es xs → Balanced bs → Leaves (es ++ bs) xs
@@ -39,10 +39,10 @@ still_left {bs = bs} (then_put {es = es} {fs = fs} x p l is-put b) more =
 one_given : {es : List Event} {xs : List ℕ} (x : ℕ) (g : Event) → Leaves es xs → newest xs ≡ Done x → deed_of g ≡ gives x → Leaves (es ++ (g ∷ [])) (but_newest xs)
 one_given x g (balanced b) h is-given = let z : ◌≡◌ {A = ℕ} 0 1 = cc in absurd (omega arith)
 one_given x g (then_put {es = es} {fs = fs} {xs = xs} y p l is-put b) h is-given =
-    let n = newest-last xs y in
+    let n = newest_last xs y in
     let e : y ≡ x = cc in
     let gone : deed_of g ≡ gives y = cc in
-    rw (but_newest-last xs y, append_assoc es (p ∷ fs) (g ∷ [])) (still_left l (put_and_given y p g is-put b gone))
+    rw (but_newest_last xs y, append_assoc es (p ∷ fs) (g ∷ [])) (still_left l (put_and_given y p g is-put b gone))
 
 one : {xs ys : List ℕ} {d : Deed} {es : List Event} (e : Event) → deed_of e ≡ d → Leaves es xs → Makes newest but_newest xs d ys → Leaves (es ++ (e ∷ [])) ys
 one e does l (put x) = then_put x e l does nothing

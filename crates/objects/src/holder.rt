@@ -1,7 +1,7 @@
 // Queue and stack from one text: a row of words as an object, where the end says which entry is taken out.
 ghost use Rattle.objects.specs.Rows.{row_model};
 ghost use Rattle.objects.specs.Held.{held};
-ghost use Rattle.objects.specs.Pictures.{reads-back, only-pictures, pictured_long};
+ghost use Rattle.objects.specs.Pictures.{reads-back, only_pictures, pictured-long};
 
 use crate::answer::Answer;
 use crate::ends::{End, Newest, Oldest};
@@ -25,9 +25,9 @@ impl<E: End> Object for Holder<E> {
 
     ghost back = { reads-back };
 
-    ghost only = { only-pictures };
+    ghost only = { only_pictures };
 
-    ghost long = { pictured_long };
+    ghost long = { pictured-long };
 
     fn kind() -> u64 {
         E::kind_number()

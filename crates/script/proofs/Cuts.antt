@@ -16,17 +16,17 @@ cut_here sep last (c ∷ cs) h =
     ⊎_elim (λ e. rw e) (λ e. let k : before sep cs < length cs = omega (arith, rw e at h) in rw e (ap (on_first c) (cut_here sep last cs k))) (cases_Bool (eqb c sep))
 
 -- none is there: of words, and of lines
-pub cut_none : (sep : ℕ) (bs : List ℕ) → before sep bs ≡ length bs → pieces sep ([] ∷ []) bs ≡ bs ∷ []
-cut_none sep [] h = refl
-cut_none sep (c ∷ cs) h =
-    ⊎_elim (λ e. let z : 0 ≡ suc (length cs) = rw e at h in absurd (omega arith)) (λ e. let k : suc (before sep cs) ≡ suc (length cs) = rw e at h in rw e (ap (on_first c) (cut_none sep cs (omega arith)))) (cases_Bool (eqb c sep))
+pub cut-none : (sep : ℕ) (bs : List ℕ) → before sep bs ≡ length bs → pieces sep ([] ∷ []) bs ≡ bs ∷ []
+cut-none sep [] h = refl
+cut-none sep (c ∷ cs) h =
+    ⊎_elim (λ e. let z : 0 ≡ suc (length cs) = rw e at h in absurd (omega arith)) (λ e. let k : suc (before sep cs) ≡ suc (length cs) = rw e at h in rw e (ap (on_first c) (cut-none sep cs (omega arith)))) (cases_Bool (eqb c sep))
 
-pub cut-last : (sep : ℕ) (bs : List ℕ) → before sep bs ≡ length bs → 0 < length bs → pieces sep [] bs ≡ bs ∷ []
-cut-last sep [] h p = absurd (omega arith)
-cut-last sep (c ∷ []) h p =
+pub cut_last : (sep : ℕ) (bs : List ℕ) → before sep bs ≡ length bs → 0 < length bs → pieces sep [] bs ≡ bs ∷ []
+cut_last sep [] h p = absurd (omega arith)
+cut_last sep (c ∷ []) h p =
     ⊎_elim (λ e. let z : 0 ≡ suc 0 = rw e at h in absurd (omega arith)) (λ e. rw e) (cases_Bool (eqb c sep))
-cut-last sep (c ∷ (d ∷ ds)) h p =
-    ⊎_elim (λ e. let z : 0 ≡ suc (suc (length ds)) = rw e at h in absurd (omega arith)) (λ e. let k : suc (before sep (d ∷ ds)) ≡ suc (length (d ∷ ds)) = rw e at h in rw e (ap (on_first c) (cut-last sep (d ∷ ds) (omega arith) (omega arith)))) (cases_Bool (eqb c sep))
+cut_last sep (c ∷ (d ∷ ds)) h p =
+    ⊎_elim (λ e. let z : 0 ≡ suc (suc (length ds)) = rw e at h in absurd (omega arith)) (λ e. let k : suc (before sep (d ∷ ds)) ≡ suc (length (d ∷ ds)) = rw e at h in rw e (ap (on_first c) (cut_last sep (d ∷ ds) (omega arith) (omega arith)))) (cases_Bool (eqb c sep))
 
 -- the search for a separator, one byte on, at one and at the end
 pub before_more : (sep : ℕ) (bs : List ℕ) (i : ℕ) → i < length bs → (get_or bs i 0 ≡ sep → ⊥) → i + before sep (drop i bs) ≡ i + 1 + before sep (drop (i + 1) bs)

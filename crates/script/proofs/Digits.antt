@@ -22,12 +22,12 @@ past v cs h =
 pub step_none : (v c : ℕ) (cs : List ℕ) → digit_of c ≡ None → number_from v (c ∷ cs) ≡ None
 step_none v c cs e = grind (arith, nat_tests)
 
-pub step-some : (v c d : ℕ) (cs : List ℕ) → digit_of c ≡ Some d → number_from v (c ∷ cs) ≡ number_from (v * 10 + d) cs
-step-some v c d cs e = grind (arith, nat_tests)
+pub step_some : (v c d : ℕ) (cs : List ℕ) → digit_of c ≡ Some d → number_from v (c ∷ cs) ≡ number_from (v * 10 + d) cs
+step_some v c d cs e = grind (arith, nat_tests)
 
 -- the turn of the loop at the digit d
 pub turn : (v d i : ℕ) (cs : List ℕ) → i < length cs → digit_of (get_or cs i 0) ≡ Some d → number_from v (drop i cs) ≡ number_from (v * 10 + d) (drop (i + 1) cs)
-turn v d i cs h e = at_drop_more (number_from v) cs i 0 h ∙ step-some v (get_or cs i 0) d (drop (i + 1) cs) e
+turn v d i cs h e = at_drop_more (number_from v) cs i 0 h ∙ step_some v (get_or cs i 0) d (drop (i + 1) cs) e
 
 -- a word by its first digit and its rest
 pub by_first : (w : List ℕ) (d : ℕ) → 0 < length w → digit_of (get_or w 0 0) ≡ Some d → (2 ≤ length w → get_or w 0 0 ≡ 48 → ⊥) → number_from d (between 1 (length w) w) ≡ number_of w

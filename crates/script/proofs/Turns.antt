@@ -5,7 +5,7 @@ use Rattle.std.proofs.lemmas.Bool.{cases_lt, le-leb, lt-leb, cond-true, cond-fal
 use Rattle.script.specs.Pieces.{before, words_of, lines_of}
 use Rattle.script.specs.Places.{Spot, word_at, words_at, lines_at}
 use Rattle.script.specs.Ahead.{words_from, lines_from}
-use Rattle.script.proofs.Cuts.{before_le, cut_here, cut_none, cut-last}
+use Rattle.script.proofs.Cuts.{before_le, cut_here, cut-none, cut_last}
 
 pub next_word : (line at : ℕ) (bs : List ℕ) → at ≤ length bs → words_from line at bs ≡ word_at line (at + 1) (take (before 32 (drop at bs)) (drop at bs)) ∷ words_from line (at + before 32 (drop at bs) + 1) bs
 next_word line at bs h =
@@ -24,7 +24,7 @@ next_word line at bs h =
     here ∙ ap (words_at line (at + 1)) c ∙ ap (λ b. word_at line (at + 1) (take k d) ∷ words_at line b (words_of (drop (suc k) d))) byte
     ∙ ap (λ r. word_at line (at + 1) (take k d) ∷ words_at line (at + k + 1 + 1) (words_of r)) dd ∙ ap (λ r. word_at line (at + 1) (take k d) ∷ r) (sym on))
     (λ (ge : length d ≤ k).
-    let c : words_of d ≡ d ∷ [] = cut_none 32 d (omega arith) in
+    let c : words_of d ≡ d ∷ [] = cut-none 32 d (omega arith) in
     let whole : take k d ≡ d = take_all k d ge in
     let off : words_from line (at + k + 1) bs ≡ [] = cond-false (leb (at + k + 1) (length bs)) (words_at line (at + k + 1 + 1) (words_of (drop (at + k + 1) bs))) [] (lt-leb (at + k + 1) (length bs) (omega arith)) in
     here ∙ ap (words_at line (at + 1)) c ∙ ap (λ w. word_at line (at + 1) w ∷ []) (sym whole) ∙ ap (λ r. word_at line (at + 1) (take k d) ∷ r) (sym off))
@@ -33,8 +33,8 @@ next_word line at bs h =
 abbrev pub spot : ℕ → List ℕ → Spot
 spot line bs = record { text = bs; line = line; byte = 1 }
 
-pub next_line : (line at : ℕ) (bs : List ℕ) → at < length bs → lines_from line at bs ≡ spot line (take (before 10 (drop at bs)) (drop at bs)) ∷ lines_from (line + 1) (at + before 10 (drop at bs) + 1) bs
-next_line line at bs h =
+pub next-line : (line at : ℕ) (bs : List ℕ) → at < length bs → lines_from line at bs ≡ spot line (take (before 10 (drop at bs)) (drop at bs)) ∷ lines_from (line + 1) (at + before 10 (drop at bs) + 1) bs
+next-line line at bs h =
     let d = drop at bs in
     let k = before 10 (drop at bs) in
     let n : length d ≡ length bs - at = length-drop at bs in
@@ -45,7 +45,7 @@ next_line line at bs h =
     let dd : drop (suc k) d ≡ drop (at + k + 1) bs = drop-drop (suc k) at bs ∙ ap (λ j. drop j bs) (omega arith) in
     ap (lines_at line) c ∙ ap (λ r. spot line (take k d) ∷ lines_at (line + 1) (lines_of r)) dd)
     (λ (ge : length d ≤ k).
-    let c : lines_of d ≡ d ∷ [] = cut-last 10 d (omega arith) (omega arith) in
+    let c : lines_of d ≡ d ∷ [] = cut_last 10 d (omega arith) (omega arith) in
     let whole : take k d ≡ d = take_all k d ge in
     let off : drop (at + k + 1) bs ≡ [] = drop_all (at + k + 1) bs (omega arith) in
     ap (lines_at line) c ∙ ap (λ w. spot line w ∷ []) (sym whole) ∙ ap (λ r. spot line (take k d) ∷ lines_at (line + 1) (lines_of r)) (sym off))

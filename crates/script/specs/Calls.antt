@@ -1,40 +1,34 @@
 -- What call a line of a script is.
-use Rattle.std.specs.Prelude.{ℕ, Bool, cond, ◌&&◌, ◌||◌, List, length, Some, None, Ok, Err, codes, Option, Result, ◌==◌, nat_le}
+use Rattle.std.specs.Prelude.{ℕ, Bool, cond, List, length, Some, None, Ok, Err, codes, Option, Result, ◌==◌}
 use Rattle.std.specs.Str.{bytes_eq}
 use Rattle.script.specs.declared.fault.Fault.{Fault}
-use Rattle.script.specs.declared.fault.FaultKind.TheVariants.{UnknownWord, FieldCount, NoNumber, StepCount}
+use Rattle.script.specs.declared.fault.FaultKind.TheVariants.{UnknownWord, FieldCount, NoNumber}
 use Rattle.script.specs.declared.call.Verb.{Verb}
-use Rattle.script.specs.declared.call.Verb.TheVariants.{Format, Start, Announce, Step, Resume, Arrive, Cut}
+use Rattle.script.specs.declared.call.Verb.TheVariants.{Format, Start, Arrive, Cut}
 use Rattle.script.specs.declared.call.Call.{Call}
-use Rattle.script.specs.declared.call.Call.TheVariants.{Format as FormatCall, Start as StartCall, Announce as AnnounceCall, Step as StepCall, Resume as ResumeCall, Arrive as ArriveCall, Cut as CutCall}
+use Rattle.script.specs.declared.call.Call.TheVariants.{Format as FormatCall, Start as StartCall, Arrive as ArriveCall, Cut as CutCall}
 use Rattle.script.specs.Places.{Seen, first_of, rest_of, text_of}
 use Rattle.script.specs.Places.Seen.{name, number}
-use Rattle.script.specs.Faults.{at_line, at_byte}
+use Rattle.script.specs.Faults.{at_line}
 
 abbrev pub verb_of : List ℕ → Option Verb
 verb_of bs =
     cond (bytes_eq bs (codes "format")) (Some Format)
     (cond (bytes_eq bs (codes "start")) (Some Start)
-    (cond (bytes_eq bs (codes "announce")) (Some Announce)
-    (cond (bytes_eq bs (codes "step")) (Some Step)
-    (cond (bytes_eq bs (codes "resume")) (Some Resume)
     (cond (bytes_eq bs (codes "arrive")) (Some Arrive)
-    (cond (bytes_eq bs (codes "cut")) (Some Cut) None))))))
+    (cond (bytes_eq bs (codes "cut")) (Some Cut) None)))
 
 -- how many words a line with this verb may have
 abbrev pub counted : Verb → ℕ → Bool
 counted Format n = n == 2
 counted Start n = n == 1
-counted Announce n = n == 4
-counted Step n = n == 2 || n == 3
-counted Resume n = n == 5
 counted Arrive n = n == 2
 counted Cut n = n == 1
 
 -- a field is a number
 abbrev pub field_of : ℕ → Option Seen → Result ℕ Fault
 field_of line None = Err (at_line FieldCount line)
-field_of line (Some (name s)) = Err (at_byte NoNumber s.line s.byte)
+field_of line (Some (name s)) = Err (record { kind = NoNumber; line = s.line; byte = s.byte })
 field_of line (Some (number s n)) = Ok n
 
 -- go on with a number, or hand on the fault
@@ -42,34 +36,10 @@ abbrev pub with_number : Result ℕ Fault → (ℕ → Result Call Fault) → Re
 with_number (Ok n) k = k n
 with_number (Err f) k = Err f
 
--- how many steps, from 1 to 1,000: one, where no number is given
-abbrev pub count_of : Option Seen → Result ℕ Fault
-count_of None = Ok 1
-count_of (Some (name s)) = Err (at_byte NoNumber s.line s.byte)
-count_of (Some (number s n)) = cond (nat_le 1 n && nat_le n 1000) (Ok n) (Err (at_byte StepCount s.line s.byte))
-
-abbrev pub announce_of : ℕ → List Seen → Result Call Fault
-announce_of line ws =
-    with_number (field_of line (first_of ws)) (λ w.
-    with_number (field_of line (first_of (rest_of ws))) (λ op.
-    with_number (field_of line (first_of (rest_of (rest_of ws)))) (λ arg.
-    Ok (AnnounceCall (record { worker = w; op = op; arg = arg })))))
-
-abbrev pub resume_of : ℕ → List Seen → Result Call Fault
-resume_of line ws =
-    with_number (field_of line (first_of ws)) (λ w.
-    with_number (field_of line (first_of (rest_of ws))) (λ turn.
-    with_number (field_of line (first_of (rest_of (rest_of ws)))) (λ op.
-    with_number (field_of line (first_of (rest_of (rest_of (rest_of ws))))) (λ arg.
-    Ok (ResumeCall (record { worker = w; turn = turn; op = op; arg = arg }))))))
-
 -- the call of a verb with its fields
 abbrev pub fields_of : ℕ → Verb → List Seen → Result Call Fault
 fields_of line Format ws = with_number (field_of line (first_of ws)) (λ n. Ok (FormatCall n))
 fields_of line Start ws = Ok StartCall
-fields_of line Announce ws = announce_of line ws
-fields_of line Step ws = with_number (field_of line (first_of ws)) (λ w. with_number (count_of (first_of (rest_of ws))) (λ n. Ok (StepCall (record { worker = w; count = n }))))
-fields_of line Resume ws = resume_of line ws
 fields_of line Arrive ws = with_number (field_of line (first_of ws)) (λ n. Ok (ArriveCall n))
 fields_of line Cut ws = Ok CutCall
 
@@ -78,5 +48,5 @@ verb_call line None ws = Err (at_line UnknownWord line)
 verb_call line (Some v) ws = cond (counted v (length ws)) (fields_of line v (rest_of ws)) (Err (at_line FieldCount line))
 
 -- the call that the words of a line are, or the first fault of the line
-unfoldable pub call_of : ℕ → List Seen → Result Call Fault
+abbrev pub call_of : ℕ → List Seen → Result Call Fault
 call_of line ws = verb_call line (verb_of (text_of (first_of ws))) ws

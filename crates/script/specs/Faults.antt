@@ -2,7 +2,7 @@
 use Rattle.std.specs.Prelude.{ℕ}
 use Rattle.script.specs.declared.fault.Fault.{Fault}
 use Rattle.script.specs.declared.fault.FaultKind.{FaultKind}
-use Rattle.script.specs.declared.fault.FaultKind.TheVariants.{TooManyCalls, UnknownWord, FieldCount, NoNumber, WrongFirstLine, StepCount, TooLong}
+use Rattle.script.specs.declared.fault.FaultKind.TheVariants.{TooManyCalls, UnknownWord, FieldCount, NoNumber, WrongFirstLine, TooLong}
 
 abbrev pub fault_number : FaultKind → ℕ
 fault_number TooManyCalls = 31
@@ -10,13 +10,8 @@ fault_number UnknownWord = 32
 fault_number FieldCount = 33
 fault_number NoNumber = 34
 fault_number WrongFirstLine = 35
-fault_number StepCount = 37
 fault_number TooLong = 38
 
 -- the fault of a whole line
 abbrev pub at_line : FaultKind → ℕ → Fault
 at_line kind line = record { kind = kind; line = line; byte = 1 }
-
--- the fault of a field that begins at this byte
-abbrev pub at_byte : FaultKind → ℕ → ℕ → Fault
-at_byte kind line byte = record { kind = kind; line = line; byte = byte }

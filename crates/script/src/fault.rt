@@ -1,6 +1,6 @@
 // What can be wrong with a script, and where.
 ghost use Rattle.std.specs.Prelude.{◌≡◌};
-ghost use Rattle.script.specs.Faults.{fault_number, at_line, at_byte};
+ghost use Rattle.script.specs.Faults.{fault_number, at_line};
 
 #[derive(Clone, Copy)]
 pub enum FaultKind {
@@ -9,7 +9,6 @@ pub enum FaultKind {
     FieldCount,
     NoNumber,
     WrongFirstLine,
-    StepCount,
     TooLong,
 }
 
@@ -31,7 +30,6 @@ impl FaultKind {
             FaultKind::FieldCount => 33,
             FaultKind::NoNumber => 34,
             FaultKind::WrongFirstLine => 35,
-            FaultKind::StepCount => 37,
             FaultKind::TooLong => 38,
         }
     }
@@ -44,17 +42,6 @@ impl FaultKind {
             kind: self,
             line,
             byte: 1,
-        }
-    }
-
-    // The fault of a field that begins at this byte.
-    pub(crate) fn at_byte(self, line: usize, byte: usize) -> Fault
-        ensures { result ≡ at_byte self line byte }
-    {
-        Fault {
-            kind: self,
-            line,
-            byte,
         }
     }
 }

@@ -8,7 +8,7 @@ mod setup;
 mod tests;
 mod words;
 
-pub use call::{AnnounceCall, Call, ResumeCall, StepCall};
+pub use call::Call;
 pub use fault::{Fault, FaultKind};
 pub use reading::read_script;
 pub use setup::{MemoryKind, ObjectKind, Setup};

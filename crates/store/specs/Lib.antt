@@ -1,6 +1,4 @@
-pub mod Replies
+pub mod Numbers
+pub mod Layout
+pub mod Machine
 pub mod Shown
-pub mod Places
-pub mod Asks
-pub mod Moves
-pub mod Called

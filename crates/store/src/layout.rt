@@ -1,6 +1,6 @@
 // Where the store's words lie in the memory.
 ghost use Rattle.std.specs.Prelude.{◌≡◌, ◌+◌, ◌*◌, ◌≤◌};
-ghost use Rattle.machine.specs.Layout.{lines_used, record_line, worker_at, object_at, contents};
+ghost use Rattle.store.specs.Layout.{lines_used, object_at, contents};
 ghost use Rattle.store.specs.Shown.{index_word};
 
 use crate::index::Index;
@@ -12,34 +12,16 @@ pub(crate) fn lines_used(workers: usize) -> usize
     2 * workers + 12
 }
 
-// The first line of a record.
-pub(crate) fn record_line(workers: usize, record: Index) -> usize
-    requires { workers ≤ 8 }
-    ensures value { result ≡ record_line workers (index_word «record») }
-    ensures within { result + (workers + 5) ≤ lines_used workers }
-{
-    match record {
-        Index::Zero => 2,
-        Index::One => 2 + (workers + 5),
-    }
-}
-
-// The first word of a worker's line in a record.
-pub(crate) fn worker_at(workers: usize, record: Index, worker: usize) -> usize
-    requires { (workers ≤ 8) × (worker ≤ 8) }
-    ensures value { result ≡ worker_at workers (index_word «record») worker }
-    ensures within { result + 8 ≤ 512 }
-{
-    8 * (record_line(workers, record) + worker)
-}
-
 // The first word of the object part of a record.
 pub(crate) fn object_at(workers: usize, record: Index) -> usize
     requires { workers ≤ 8 }
     ensures value { result ≡ object_at workers (index_word «record») }
     ensures within { result + 40 ≤ 8 * lines_used workers }
 {
-    8 * (record_line(workers, record) + workers)
+    match record {
+        Index::Zero => 8 * (2 + workers),
+        Index::One => 8 * (2 + (workers + 5) + workers),
+    }
 }
 
 // The words of line 0.

@@ -1,11 +1,9 @@
-// The store over any object and any memory: announce, step, collect, resume, and the calls that bring it up and down.
+// The store over any object and any memory: format, start, arrive and cut.
 mod index;
 mod layout;
-mod place;
+mod refusal;
 mod store;
 mod table;
-mod ticket;
 
-pub use place::Request;
+pub use refusal::{Layer, Refusal};
 pub use store::Store;
-pub use ticket::{Resumed, Slip, Ticket};

@@ -1,7 +1,6 @@
 // The index as the word that the memory holds.
 ghost use Rattle.std.specs.Prelude.{◌≡◌, if◌then◌else◌, Some, None, nat_lt};
 ghost use Rattle.std.specs.Option.{option_map};
-ghost use Rattle.machine.specs.Layout.{other};
 ghost use Rattle.store.specs.Shown.{index_word};
 
 use super::Index;
@@ -14,24 +13,6 @@ impl Index {
             0 => Some(Index::Zero),
             1 => Some(Index::One),
             _ => None,
-        }
-    }
-
-    pub(crate) fn word(self) -> u64
-        ensures { result ≡ index_word self }
-    {
-        match self {
-            Index::Zero => 0,
-            Index::One => 1,
-        }
-    }
-
-    pub(crate) fn other(self) -> Index
-        ensures { index_word result ≡ other (index_word self) }
-    {
-        match self {
-            Index::Zero => Index::One,
-            Index::One => Index::Zero,
         }
     }
 }

@@ -1,14 +1,14 @@
-// Rows of calls of the memory.
+// Rows of calls that a format makes; none is refused where the lines are there.
 ghost use Rattle.std.specs.Prelude.{◌≡◌, ◌+◌, ◌*◌, ◌≤◌, length, replicate};
 ghost use Rattle.memory.specs.Calls.{each_word, each_line};
 ghost use Rattle.memory.specs.Conduct.{after_calls};
-ghost use Rattle.machine.specs.Layout.{format_calls};
+ghost use Rattle.store.specs.Layout.{format_calls};
 
 use crate::layout;
 use memory::Memory;
 
 // Writes the words from one on, lowest first.
-pub(super) fn write_words<M: Memory>(memory: &mut M, from: usize, words: &[u64])
+fn write_words<M: Memory>(memory: &mut M, from: usize, words: &[u64])
     requires { from + length words.now ≤ 512 }
     ensures after { meaning memory.new ≡ after_calls conduct (each_word from words.now) (meaning memory.old) }
     ensures lent { frame memory.new ≡ frame memory.old }

@@ -1,34 +1,28 @@
 // The table of a store that is down, and of one that was just started.
 ghost use Rattle.std.specs.Prelude.{◌≡◌, true, false};
-ghost use Rattle.store.specs.declared.index.Index.TheVariants.{Zero};
-ghost use Rattle.store.specs.Places.{empty_table};
+ghost use Rattle.store.specs.Shown.{index_word};
 
 use super::Table;
 use crate::index::Index;
-use crate::place::Place;
 
 impl Table {
     pub(crate) fn down() -> Table
-        ensures { result ≡ empty_table false 0 Zero }
+        ensures { (result.up ≡ false) × (result.workers ≡ 0) × (index_word result.settled ≡ 0) }
     {
         Table {
             up: false,
             workers: 0,
             settled: Index::Zero,
-            lock: None,
-            places: [Place::free(); 8],
         }
     }
 
     pub(crate) fn up(workers: usize, settled: Index) -> Table
-        ensures { result ≡ empty_table true workers settled }
+        ensures { (result.up ≡ true) × (result.workers ≡ workers) × (result.settled ≡ settled) }
     {
         Table {
             up: true,
             workers,
             settled,
-            lock: None,
-            places: [Place::free(); 8],
         }
     }
 }

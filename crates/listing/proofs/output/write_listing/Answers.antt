@@ -5,7 +5,7 @@ use Rattle.std.proofs.lemmas.Bool.{cond-true, le-leb}
 use Rattle.bounded.specs.Entries.{entries, room, spare, lender}
 use Rattle.listing.specs.Texts.{listing_text}
 use Rattle.listing.specs.Buffers.{filled}
-use Rattle.listing.proofs.Lines.{line, next_line, some_fits, taken, passed}
+use Rattle.listing.proofs.Lines.{line, next-line, some_fits, taken, passed}
 use Rattle.listing.proofs.output.write_listing.Goals as goal
 
 pub loop-o-preserved : goal.loop-o-preserved
@@ -15,7 +15,7 @@ loop-o-preserved c =
     let b = c.loop-o.text in
     let b' = c.add_line.new.text in
     let rest = listing_text (drop (i + 1) os) in
-    let parts : entries b ++ (line os i ++ rest) ≡ listing_text os = ap (λ l. entries b ++ l) (sym (next_line os i c.loop-o-test.true)) ∙ c.loop-o.invariant.0 in
+    let parts : entries b ++ (line os i ++ rest) ≡ listing_text os = ap (λ l. entries b ++ l) (sym (next-line os i c.loop-o-test.true)) ∙ c.loop-o.invariant.0 in
     let fits : length (listing_text os) ≤ room c.new-text.result = omega (arith, (some_fits _ _ _ c.in-Some.ensures).0, c.new-text.ensures.room) in
     let t : c.add_line.result ≡ true = taken (entries b) (line os i) rest (listing_text os) (room c.new-text.result) (room b) c.add_line.result parts fits c.loop-o.invariant.2 c.add_line.ensures.test in
     let more : entries b' ≡ entries b ++ line os i = c.add_line.ensures.text ∙ cond-true c.add_line.result (entries b ++ line os i) (entries b) t in (

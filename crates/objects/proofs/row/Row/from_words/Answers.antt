@@ -1,11 +1,11 @@
 -- Words are refused where one past the entries is not zero, and otherwise give the entries that they name.
 use Rattle.std.proofs.Common.{ℕ, List, Some, None, ap, ◌∙◌, arith, rules}
-use Rattle.objects.proofs.RowCode.{no-picture, yes_picture, copied_is, wide_made}
+use Rattle.objects.proofs.RowCode.{no_picture, yes_picture, copied_is, wide_made}
 use Rattle.objects.specs.Rows.{clip, named}
 use Rattle.objects.proofs.row.Row.from_words.Goals as goal
 
 pub returns-then-not-all_zero : goal.returns-then-not-all_zero
-returns-then-not-all_zero c = no-picture c.args.words.now (omega arith) (omega arith) _ _ (search rules)
+returns-then-not-all_zero c = no_picture c.args.words.now (omega arith) (omega arith) _ _ (search rules)
 
 pub invariant-of-result : goal.invariant-of-result
 invariant-of-result c = (omega arith, (wide_made c.args.words.now (omega arith) (omega arith) c.copy_from_slice.new.self c.copy_from_slice.ensures.after, tt))

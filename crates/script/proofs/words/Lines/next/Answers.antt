@@ -3,7 +3,7 @@ use Rattle.std.proofs.Common.{◌≡◌, ◌+◌, ◌-◌, take, drop, Some, sym
 use Rattle.script.specs.Pieces.{before}
 use Rattle.script.specs.Places.{first_of, rest_of}
 use Rattle.script.specs.Ahead.{lines_from}
-use Rattle.script.proofs.Turns.{spot, next_line, no_line}
+use Rattle.script.proofs.Turns.{spot, next-line, no_line}
 use Rattle.script.proofs.words.Lines.next.Goals as goal
 
 pub returns : goal.returns
@@ -12,7 +12,7 @@ returns c =
     let at = c.args.self.now.at in
     let line = c.args.self.now.line in
     let k = before 10 (drop at bs) in
-    let next = next_line line at bs c.if-from-self.false in
+    let next = next-line line at bs c.if-from-self.false in
     let cut : c.find-to.result - at ≡ k = omega (arith, c.find-to.ensures.value) in
     let to : c.find-to.result + 1 ≡ at + k + 1 = omega (arith, c.find-to.ensures.value) in
     record {

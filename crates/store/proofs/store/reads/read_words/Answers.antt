@@ -1,6 +1,5 @@
--- Word after word, the words of the image are read.
-use Rattle.std.proofs.Common.{◌<◌, ◌≢◌, length, arith, get_or-set_other, get_or-set_same, below_more}
-use Rattle.machine.proofs.Words.{words-read}
+use Rattle.std.proofs.Common.{◌<◌, ◌≢◌, length, ◌∙◌, arith, get_or-set_other, get_or-set_same, below_more}
+use Rattle.store.proofs.Parts.{part_of}
 use Rattle.store.proofs.store.reads.read_words.Goals as goal
 
 pub loop-i-preserved : goal.loop-i-preserved
@@ -11,5 +10,5 @@ loop-i-preserved g c =
 
 pub returns : goal.returns
 returns g c =
-    words-read (length c.args.words.now) c.args.from (g.M.Memory.conduct.model (g.M.Memory.meaning c.args.memory.now)).current c.loop-i.words
-    c.loop-i.auto.words (λ k h. c.loop-i.invariant k (omega arith))
+    part_of (g.M.Memory.conduct.model (g.M.Memory.meaning c.args.memory.now)).current c.loop-i.words c.args.from (length c.args.words.now)
+    c.loop-i.auto.words c.requires.0 (λ k h. c.loop-i.invariant k (omega arith))

@@ -1,4 +1,3 @@
--- Past its lines the image has no word.
 use Rattle.std.proofs.Common.{sym, arith}
 use Rattle.std.proofs.lemmas.List.{get_or_past}
 use Rattle.store.proofs.store.reads.word.Goals as goal

@@ -1,4 +1,3 @@
--- One line after another.
 use Rattle.std.proofs.Common.{◌∙◌, arith}
 use Rattle.memory.proofs.Rows.{lines_step}
 use Rattle.store.proofs.store.writes.ask_lines.Goals as goal

@@ -1,21 +1,20 @@
--- The parts of a format are written one after another.
 use Rattle.std.proofs.Common.{◌≡◌, ℕ, ◌+◌, ◌*◌, List, [], ◌∷◌, ◌++◌, length, replicate, refl, ap, ◌∙◌, arith}
 use lib.ListN.{length-replicate}
-use Rattle.memory.specs.Calls.{syncs, each_word, each_line}
+use Rattle.memory.specs.Calls.{Call, syncs, each_word, each_line}
 use Rattle.memory.specs.Conduct.{Conduct, after_calls}
-use Rattle.machine.specs.Layout.{contents, lines_used, format_words, format_calls}
-use Rattle.store.proofs.FormatWrites.{then_words, then_calls}
+use Rattle.store.specs.Layout.{contents, lines_used, format_words, format_calls}
+use Rattle.store.proofs.Format.{then_words, then_calls}
 use Rattle.store.proofs.store.writes.write_format.Goals as goal
 
 module _ (C : Conduct) (kind n : ℕ) (picture : List ℕ) (s s₁ s₂ s₃ s₄ s₅ : C.State) where
-  words_in-order : length picture ≡ 40
+  words_in_order : length picture ≡ 40
       → s₁ ≡ after_calls C (each_word 0 (contents kind n)) s
       → s₂ ≡ after_calls C (each_word 8 (replicate 8 0)) s₁
       → s₃ ≡ after_calls C (each_word 16 (replicate (8 * n) 0)) s₂
       → s₄ ≡ after_calls C (each_word (16 + 8 * n) picture) s₃
       → s₅ ≡ after_calls C (each_word (16 + 8 * n + 40) (replicate (8 * (n + 5)) 0)) s₄
       → s₅ ≡ after_calls C (each_word 0 (format_words kind picture n)) s
-  words_in-order p w₁ w₂ w₃ w₄ w₅ =
+  words_in_order p w₁ w₂ w₃ w₄ w₅ =
       let zs : List ℕ = replicate (8 * n) 0 in let qs : List ℕ = replicate (8 * (n + 5)) 0 in
       let l : length zs ≡ 8 * n = length-replicate (8 * n) 0 in
       let v₄ = then_words C (16 + 8 * n) (16 + 8 * n + 40) picture qs s₃ s₄ s₅ (omega arith) w₄ w₅ in
@@ -30,7 +29,7 @@ returns g c =
     let kind = c.args.kind in let n = c.args.workers in let picture = c.args.picture.now in
     let k : length picture ≡ 40 = omega arith in
     let begin = m c.args.memory.now in let written = m c.write_zeros-3.new.memory in
-    let words = words_in-order C kind n picture begin (m c.write_words.new.memory) (m c.write_zeros.new.memory) (m c.write_zeros-2.new.memory)
+    let words = words_in_order C kind n picture begin (m c.write_words.new.memory) (m c.write_zeros.new.memory) (m c.write_zeros-2.new.memory)
     (m c.write_words-2.new.memory) written k
     (c.write_words.ensures.after ∙ ap (λ (ws : List ℕ). after_calls C (each_word 0 ws) begin) c.contents.ensures)
     c.write_zeros.ensures.after c.write_zeros-2.ensures.after c.write_words-2.ensures.after c.write_zeros-3.ensures.after in

@@ -1,4 +1,3 @@
--- One word after another.
 use Rattle.std.proofs.Common.{ℕ, ◌+◌, List, sym, ap, ◌∙◌, arith}
 use Rattle.std.proofs.lemmas.List.{drop_all}
 use Rattle.memory.specs.Calls.{each_word}

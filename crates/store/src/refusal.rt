@@ -1,0 +1,22 @@
+// The numbered questions that a call answers with no, and the layer that asks each.
+mod numbers;
+
+use memory::Refusal as MemoryRefusal;
+
+#[derive(Clone, Copy)]
+pub enum Layer {
+    Store,
+    Module,
+}
+
+#[derive(Clone, Copy)]
+pub enum Refusal {
+    NotDown,
+    WorkerCount,
+    TooFewLines,
+    WrongContents,
+    WrongKind,
+    WrongIndex,
+    NoPicture,
+    InMemory(MemoryRefusal),
+}
