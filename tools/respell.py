@@ -51,7 +51,7 @@ def defined():
             inside = indent if marks & {"data", "record"} else None
             if rest.startswith("goal."):
                 continue
-            if re.search(r"(^|→ )Type [01]( where)?$", rest.strip()):
+            if name[0].isupper() or re.search(r"(^|→ )Type [01]( where)?$", rest.strip()):
                 kinds[name] = "type"
             elif marks & MARKS:
                 kinds[name] = "word"

@@ -14,8 +14,8 @@ use store::Store;
 // Runs the calls on a store over the memory, and writes the listing.
 fn write_run<O: Object, M: Memory + Drop>(memory: M, calls: &[Call], out: &mut [u8]) -> usize
     requires { length calls.now ≤ 512 }
-    ensures value { result ≡ written (run_text model conduct (meaning memory) calls.now) out.old }
-    ensures out { out.new ≡ filled (run_text model conduct (meaning memory) calls.now) out.old }
+    ensures value { result ≡ written (run_text O.model M.conduct (M.meaning memory) calls.now) out.old }
+    ensures out { out.new ≡ filled (run_text O.model M.conduct (M.meaning memory) calls.now) out.old }
 {
     let mut store: Store<O, M> = Store::over(memory);
     let mut list = [Outcome::Done(Plain::Start); 512];
@@ -31,8 +31,8 @@ fn write_object<M: Memory + Drop>(
     out: &mut [u8],
 ) -> usize
     requires { length calls.now ≤ 512 }
-    ensures value { result ≡ written (run_text (model_of object) conduct (meaning memory) calls.now) out.old }
-    ensures out { out.new ≡ filled (run_text (model_of object) conduct (meaning memory) calls.now) out.old }
+    ensures value { result ≡ written (run_text (model_of object) M.conduct (M.meaning memory) calls.now) out.old }
+    ensures out { out.new ≡ filled (run_text (model_of object) M.conduct (M.meaning memory) calls.now) out.old }
 {
     match object {
         ObjectKind::Queue => write_run::<Queue, M>(memory, calls, out),

@@ -1,4 +1,6 @@
 // The bench: runs a script on a store, and writes the listing.
+#![tactic(auto)]
+
 mod depot;
 mod run;
 

@@ -25,8 +25,8 @@ fn tell(plain: Plain, reply: Result<(), Refusal>) -> Outcome
 }
 
 fn run_call<O: Object, M: Memory>(store: &mut Store<O, M>, call: Call) -> Outcome
-    ensures outcome { result ≡ (ran model conduct call (shown model conduct state meaning store.old)).outcome }
-    ensures after { shown model conduct state meaning store.new ≡ (ran model conduct call (shown model conduct state meaning store.old)).after }
+    ensures outcome { result ≡ (ran O.model M.conduct call (shown O.model M.conduct O.state M.meaning store.old)).outcome }
+    ensures after { shown O.model M.conduct O.state M.meaning store.new ≡ (ran O.model M.conduct call (shown O.model M.conduct O.state M.meaning store.old)).after }
 {
     match call {
         Call::Format(workers) => tell(Plain::Format, store.format(workers)),
@@ -45,7 +45,7 @@ pub(crate) fn run_calls<O: Object, M: Memory>(
     list: &mut Bounded<Outcome>,
 )
     requires { length (entries list.old) + length calls.now ≤ room list.old }
-    ensures { entries list.new ≡ entries list.old ++ outcomes model conduct calls.now (shown model conduct state meaning store.old) }
+    ensures { entries list.new ≡ entries list.old ++ outcomes O.model M.conduct calls.now (shown O.model M.conduct O.state M.meaning store.old) }
 {
     for call in calls {
         let outcome = run_call(store, *call);

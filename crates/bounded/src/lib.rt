@@ -1,4 +1,6 @@
 // A list of at most as many entries as the memory that its caller lends.
+#![tactic(auto)]
+
 ghost use Rattle.std.specs.Prelude.{◌≤◌, length};
 
 mod ops;

@@ -12,5 +12,5 @@ fn fills_three_places(rt: HostRuntime) {
     assert!(rt; !list.has_room());
     assert!(rt; !list.push(10));
     assert_eq!(rt; list.len(), 3);
-    assert!(rt; list.as_slice() == b"\x07\x08\x09");
+    assert!(rt; list.as_slice() == b"\x07\x08\x09".as_slice());
 }

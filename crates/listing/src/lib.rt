@@ -1,4 +1,6 @@
 // What the calls of a script came to, and the text of it in a caller's buffer.
+#![tactic(auto)]
+
 mod outcome;
 mod output;
 #[cfg(test)]

@@ -1,4 +1,6 @@
 // Memory modules, which lose what has not arrived when the power is cut: what every module promises, and two modules over lent words.
+#![tactic(auto)]
+
 mod counts;
 mod lazy;
 mod module;

@@ -66,12 +66,12 @@ abbrev pub Keeps : ℕ → First → Rest → Promise → Type 0
 Keeps kind first rest promise = (run : List Operation) → promise (events (row_model kind first rest) (clip []) run) (after_run (row_model kind first rest) (clip []) run).items
 
 -- what was put in is what was given out, in the same order, and then what is left, oldest first
-abbrev pub In_order : Promise
-In_order es left = put_in es ≡ given_out es ++ left
+abbrev pub InOrder : Promise
+InOrder es left = put_in es ≡ given_out es ++ left
 
 -- a queue gives its words out in the order in which they were put in
 abbrev pub QueueLaw : Type 0
-QueueLaw = Keeps 1 oldest but_oldest In_order
+QueueLaw = Keeps 1 oldest but_oldest InOrder
 
 -- events that leave nothing behind: each word given out is the latest that was put in and not yet given out
 pub data Balanced : List Event → Type 0 where

@@ -1,7 +1,7 @@
 // The two ends of a row: which entry is looked at and taken out.
 ghost use Rattle.std.specs.Prelude.{◌≡◌, ℕ};
 ghost use Rattle.objects.specs.Rows.{First, Rest, clip, oldest, newest, but_oldest, but_newest};
-ghost use Rattle.objects.specs.Laws.{Promise, Keeps, In_order, Leaves};
+ghost use Rattle.objects.specs.Laws.{Promise, Keeps, InOrder, Leaves};
 ghost use Rattle.objects.specs.Held.{held};
 ghost use Rattle.objects.specs.QueueLaw.{queue_law};
 ghost use Rattle.objects.specs.StackLaw.{stack_law};
@@ -48,7 +48,7 @@ impl End for Oldest {
 
     ghost rest = { but_oldest };
 
-    ghost promise = { In_order };
+    ghost promise = { InOrder };
 
     ghost keeps = { queue_law };
 

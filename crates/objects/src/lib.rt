@@ -1,4 +1,6 @@
 // Objects of a store: their meaning, their pictures, and queue and stack.
+#![tactic(auto)]
+
 mod answer;
 mod ends;
 mod holder;

@@ -1,4 +1,6 @@
 // Runs the script on standard input, and prints the listing or the fault.
+#![tactic(auto)]
+
 ghost use Rattle.std.specs.Prelude.{◌≤◌, length, IfOk};
 
 use std::io;

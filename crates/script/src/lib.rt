@@ -1,4 +1,6 @@
 // A script of calls, read as a whole before anything is run.
+#![tactic(auto)]
+
 mod call;
 mod fault;
 mod number;

@@ -1,4 +1,6 @@
 // The store over any object and any memory: format, start, arrive and cut.
+#![tactic(auto)]
+
 mod index;
 mod layout;
 mod refusal;

@@ -14,8 +14,8 @@ use objects::Object;
 impl<O: Object, M: Memory> Store<O, M> {
     // A store over a memory; it begins down.
     pub fn over(memory: M) -> Store<O, M>
-        ensures value { shown model conduct state meaning result ≡ begun model conduct (meaning memory) }
-        ensures lent { frame result.memory ≡ frame memory }
+        ensures value { shown O.model M.conduct O.state M.meaning result ≡ begun O.model M.conduct (M.meaning memory) }
+        ensures lent { M.frame result.memory ≡ M.frame memory }
     {
         Store {
             table: Table::down(),
@@ -26,9 +26,9 @@ impl<O: Object, M: Memory> Store<O, M> {
 
     // Writes a fresh store for that many workers into the memory of one that is down.
     pub fn format(&mut self, workers: u64) -> Result<(), Refusal>
-        ensures reply { result ≡ (formatted model conduct workers (shown model conduct state meaning self.old)).reply }
-        ensures after { shown model conduct state meaning self.new ≡ (formatted model conduct workers (shown model conduct state meaning self.old)).after }
-        ensures lent { frame self.new.memory ≡ frame self.old.memory }
+        ensures reply { result ≡ (formatted O.model M.conduct workers (shown O.model M.conduct O.state M.meaning self.old)).reply }
+        ensures after { shown O.model M.conduct O.state M.meaning self.new ≡ (formatted O.model M.conduct workers (shown O.model M.conduct O.state M.meaning self.old)).after }
+        ensures lent { M.frame self.new.memory ≡ M.frame self.old.memory }
     {
         if self.table.up {
             return Err(Refusal::NotDown);
@@ -46,9 +46,9 @@ impl<O: Object, M: Memory> Store<O, M> {
 
     // Brings a store up that is down, at what its memory holds.
     pub fn start(&mut self) -> Result<(), Refusal>
-        ensures reply { result ≡ (started model conduct (shown model conduct state meaning self.old)).reply }
-        ensures after { shown model conduct state meaning self.new ≡ (started model conduct (shown model conduct state meaning self.old)).after }
-        ensures lent { frame self.new.memory ≡ frame self.old.memory }
+        ensures reply { result ≡ (started O.model M.conduct (shown O.model M.conduct O.state M.meaning self.old)).reply }
+        ensures after { shown O.model M.conduct O.state M.meaning self.new ≡ (started O.model M.conduct (shown O.model M.conduct O.state M.meaning self.old)).after }
+        ensures lent { M.frame self.new.memory ≡ M.frame self.old.memory }
     {
         if self.table.up {
             return Err(Refusal::NotDown);
@@ -74,9 +74,9 @@ impl<O: Object, M: Memory> Store<O, M> {
     }
 
     pub fn arrive(&mut self, line: u64) -> Result<(), Refusal>
-        ensures reply { result ≡ (arrived model conduct line (shown model conduct state meaning self.old)).reply }
-        ensures after { shown model conduct state meaning self.new ≡ (arrived model conduct line (shown model conduct state meaning self.old)).after }
-        ensures lent { frame self.new.memory ≡ frame self.old.memory }
+        ensures reply { result ≡ (arrived O.model M.conduct line (shown O.model M.conduct O.state M.meaning self.old)).reply }
+        ensures after { shown O.model M.conduct O.state M.meaning self.new ≡ (arrived O.model M.conduct line (shown O.model M.conduct O.state M.meaning self.old)).after }
+        ensures lent { M.frame self.new.memory ≡ M.frame self.old.memory }
     {
         match self.memory.arrive(line as usize) {
             Ok(()) => Ok(()),
@@ -86,8 +86,8 @@ impl<O: Object, M: Memory> Store<O, M> {
 
     // Power goes: what has not arrived is lost, and the store is down.
     pub fn cut(&mut self)
-        ensures after { shown model conduct state meaning self.new ≡ cut model conduct (shown model conduct state meaning self.old) }
-        ensures lent { frame self.new.memory ≡ frame self.old.memory }
+        ensures after { shown O.model M.conduct O.state M.meaning self.new ≡ cut O.model M.conduct (shown O.model M.conduct O.state M.meaning self.old) }
+        ensures lent { M.frame self.new.memory ≡ M.frame self.old.memory }
     {
         self.table = Table::down();
         self.working = O::fresh();

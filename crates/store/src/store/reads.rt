@@ -15,7 +15,7 @@ use objects::Object;
 
 // The word as it is now; outside the memory, 0.
 pub(super) fn word<M: Memory>(memory: &M, a: usize) -> u64
-    ensures { result ≡ slice_index (conduct.model (meaning memory.now)).current a }
+    ensures { result ≡ slice_index (M.conduct.model (M.meaning memory.now)).current a }
 {
     if a / 8 >= memory.lines() {
         return 0;
@@ -28,8 +28,8 @@ pub(super) fn word<M: Memory>(memory: &M, a: usize) -> u64
 
 // Fills the words with those of the memory, from one on.
 fn read_words<M: Memory>(memory: &M, from: usize, words: &mut [u64])
-    requires { (from + length words.old ≤ length (conduct.model (meaning memory.now)).current) × (from + length words.old ≤ 512) }
-    ensures { words.new ≡ take (length words.old) (drop from (conduct.model (meaning memory.now)).current) }
+    requires { (from + length words.old ≤ length (M.conduct.model (M.meaning memory.now)).current) × (from + length words.old ≤ 512) }
+    ensures { words.new ≡ take (length words.old) (drop from (M.conduct.model (M.meaning memory.now)).current) }
 {
     for i in 0..words.len() {
         words[i] = word(memory, from + i);
@@ -44,8 +44,8 @@ fn same(xs: &[u64], ys: &[u64]) -> bool
 
 // The number of workers, where line 0 is right for it and the lines are there.
 pub(super) fn workers_there<M: Memory>(memory: &M) -> Option<usize>
-    requires { 14 ≤ lines (conduct.model (meaning memory.now)) }
-    ensures value { result ≡ (if contents_fit (conduct.model (meaning memory.now)) then Some (slice_index (conduct.model (meaning memory.now)).current 2) else None) }
+    requires { 14 ≤ lines (M.conduct.model (M.meaning memory.now)) }
+    ensures value { result ≡ (if contents_fit (M.conduct.model (M.meaning memory.now)) then Some (slice_index (M.conduct.model (M.meaning memory.now)).current 2) else None) }
 {
     let lines = memory.lines();
     let n = word(memory, 2);
@@ -66,9 +66,9 @@ pub(super) fn workers_there<M: Memory>(memory: &M) -> Option<usize>
 impl<O: Object, M: Memory> Store<O, M> {
     // Whether the object part of a record is a picture.
     pub(super) fn has_picture(&self, workers: usize, record: Index) -> bool
-        requires room { (workers ≤ 8) × (lines_used workers ≤ lines (conduct.model (meaning self.now.memory))) }
-        requires formed { Formed (conduct.model (meaning self.now.memory)) }
-        ensures { result ≡ is_some (model.reads (object_words (conduct.model (meaning self.now.memory)).current workers (index_word «record»))) }
+        requires room { (workers ≤ 8) × (lines_used workers ≤ lines (M.conduct.model (M.meaning self.now.memory))) }
+        requires formed { Formed (M.conduct.model (M.meaning self.now.memory)) }
+        ensures { result ≡ is_some (O.model.reads (object_words (M.conduct.model (M.meaning self.now.memory)).current workers (index_word «record»))) }
     {
         let mut words = [0; 40];
         read_words(&self.memory, layout::object_at(workers, record), &mut words);

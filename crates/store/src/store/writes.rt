@@ -10,8 +10,8 @@ use memory::Memory;
 // Writes the words from one on, lowest first.
 fn write_words<M: Memory>(memory: &mut M, from: usize, words: &[u64])
     requires { from + length words.now ≤ 512 }
-    ensures after { meaning memory.new ≡ after_calls conduct (each_word from words.now) (meaning memory.old) }
-    ensures lent { frame memory.new ≡ frame memory.old }
+    ensures after { M.meaning memory.new ≡ after_calls M.conduct (each_word from words.now) (M.meaning memory.old) }
+    ensures lent { M.frame memory.new ≡ M.frame memory.old }
 {
     for i in 0..words.len() {
         let _ = memory.write(from + i, words[i]);
@@ -20,8 +20,8 @@ fn write_words<M: Memory>(memory: &mut M, from: usize, words: &[u64])
 
 fn write_zeros<M: Memory>(memory: &mut M, from: usize, count: usize)
     requires { from + count ≤ 512 }
-    ensures after { meaning memory.new ≡ after_calls conduct (each_word from (replicate count 0)) (meaning memory.old) }
-    ensures lent { frame memory.new ≡ frame memory.old }
+    ensures after { M.meaning memory.new ≡ after_calls M.conduct (each_word from (replicate count 0)) (M.meaning memory.old) }
+    ensures lent { M.frame memory.new ≡ M.frame memory.old }
 {
     for i in 0..count {
         let _ = memory.write(from + i, 0);
@@ -30,8 +30,8 @@ fn write_zeros<M: Memory>(memory: &mut M, from: usize, count: usize)
 
 // Asks for the first lines, lowest first.
 fn ask_lines<M: Memory>(memory: &mut M, count: usize)
-    ensures after { meaning memory.new ≡ after_calls conduct (each_line 0 count) (meaning memory.old) }
-    ensures lent { frame memory.new ≡ frame memory.old }
+    ensures after { M.meaning memory.new ≡ after_calls M.conduct (each_line 0 count) (M.meaning memory.old) }
+    ensures lent { M.frame memory.new ≡ M.frame memory.old }
 {
     for line in 0..count {
         let _ = memory.ask(line);
@@ -46,8 +46,8 @@ pub(super) fn write_format<M: Memory>(
     workers: usize,
 )
     requires { workers ≤ 8 }
-    ensures after { meaning memory.new ≡ after_calls conduct (format_calls kind picture.now workers) (meaning memory.old) }
-    ensures lent { frame memory.new ≡ frame memory.old }
+    ensures after { M.meaning memory.new ≡ after_calls M.conduct (format_calls kind picture.now workers) (M.meaning memory.old) }
+    ensures lent { M.frame memory.new ≡ M.frame memory.old }
 {
     let record = 16 + 8 * workers;
     write_words(memory, 0, &layout::contents(kind, workers));

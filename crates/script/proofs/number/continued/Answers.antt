@@ -6,29 +6,29 @@ use Rattle.script.specs.Numbers.{number_from}
 use Rattle.script.proofs.Digits.{past, step_none, turn}
 use Rattle.script.proofs.number.continued.Goals as goal
 
-pub returns-in-err-d : goal.returns-in-err-d
-returns-in-err-d c =
+pub returns-in_err-d : goal.returns-in_err-d
+returns-in_err-d c =
     let m = at_drop_more (number_from c.loop-b.value) c.args.rest.now c.loop-b.b-index 0 (omega arith) in
-    let n = step_none c.loop-b.value (get_or c.args.rest.now c.loop-b.b-index 0) (drop (c.loop-b.b-index + 1) c.args.rest.now) (sym c.in-err-d.ensures) in
-    c.from-residual.ensures ∙ sym n ∙ sym m ∙ c.loop-b.invariant.0
+    let n = step_none c.loop-b.value (get_or c.args.rest.now c.loop-b.b-index 0) (drop (c.loop-b.b-index + 1) c.args.rest.now) (sym c.in_err-d.ensures) in
+    c.from_residual.ensures ∙ sym n ∙ sym m ∙ c.loop-b.invariant.0
 
-pub returns-in-err-checked_mul : goal.returns-in-err-checked_mul
-returns-in-err-checked_mul c =
-    let m = turn c.loop-b.value c.in-ok-d.d c.loop-b.b-index c.args.rest.now (omega arith) (sym c.in-ok-d.ensures) in
-    let n = past (c.loop-b.value * 10 + c.in-ok-d.d) (drop (c.loop-b.b-index + 1) c.args.rest.now) (omega (arith, c.in-err-checked_mul.ensures)) in
-    c.from-residual-in-err-checked_mul.ensures ∙ sym n ∙ sym m ∙ c.loop-b.invariant.0
+pub returns-in_err-checked_mul : goal.returns-in_err-checked_mul
+returns-in_err-checked_mul c =
+    let m = turn c.loop-b.value c.in_ok-d.d c.loop-b.b-index c.args.rest.now (omega arith) (sym c.in_ok-d.ensures) in
+    let n = past (c.loop-b.value * 10 + c.in_ok-d.d) (drop (c.loop-b.b-index + 1) c.args.rest.now) (omega (arith, c.in_err-checked_mul.ensures)) in
+    c.from_residual-in_err-checked_mul.ensures ∙ sym n ∙ sym m ∙ c.loop-b.invariant.0
 
-pub returns-in-err-value : goal.returns-in-err-value
-returns-in-err-value c =
-    let m = turn c.loop-b.value c.in-ok-d.d c.loop-b.b-index c.args.rest.now (omega arith) (sym c.in-ok-d.ensures) in
-    let n = past (c.loop-b.value * 10 + c.in-ok-d.d) (drop (c.loop-b.b-index + 1) c.args.rest.now) (omega (arith, c.in-ok-checked_mul.ensures.1, c.in-err-value.ensures)) in
-    c.from-residual-in-err-value.ensures ∙ sym n ∙ sym m ∙ c.loop-b.invariant.0
+pub returns-in_err-value : goal.returns-in_err-value
+returns-in_err-value c =
+    let m = turn c.loop-b.value c.in_ok-d.d c.loop-b.b-index c.args.rest.now (omega arith) (sym c.in_ok-d.ensures) in
+    let n = past (c.loop-b.value * 10 + c.in_ok-d.d) (drop (c.loop-b.b-index + 1) c.args.rest.now) (omega (arith, c.in_ok-checked_mul.ensures.1, c.in_err-value.ensures)) in
+    c.from_residual-in_err-value.ensures ∙ sym n ∙ sym m ∙ c.loop-b.invariant.0
 
 pub loop-b-preserved : goal.loop-b-preserved
 loop-b-preserved c =
-    let m = turn c.loop-b.value c.in-ok-d.d c.loop-b.b-index c.args.rest.now (omega arith) (sym c.in-ok-d.ensures) in
-    let e : c.in-ok-value.value ≡ c.loop-b.value * 10 + c.in-ok-d.d = omega (arith, c.in-ok-checked_mul.ensures.1, c.in-ok-value.ensures.1) in
-    (ap (λ v. number_from v (drop (c.loop-b.b-index + 1) c.args.rest.now)) e ∙ sym m ∙ c.loop-b.invariant.0, omega (arith, e, c.in-ok-checked_mul.ensures.1, c.in-ok-value.ensures.0))
+    let m = turn c.loop-b.value c.in_ok-d.d c.loop-b.b-index c.args.rest.now (omega arith) (sym c.in_ok-d.ensures) in
+    let e : c.in_ok-value.value ≡ c.loop-b.value * 10 + c.in_ok-d.d = omega (arith, c.in_ok-checked_mul.ensures.1, c.in_ok-value.ensures.1) in
+    (ap (λ v. number_from v (drop (c.loop-b.b-index + 1) c.args.rest.now)) e ∙ sym m ∙ c.loop-b.invariant.0, omega (arith, e, c.in_ok-checked_mul.ensures.1, c.in_ok-value.ensures.0))
 
 pub returns : goal.returns
 returns c =

@@ -14,9 +14,9 @@ loop-line-preserved c =
     let n = c.loop-line.count in
     let b = c.loop-line.calls in
     let b' = c.push.new.self in
-    let x = c.in-ok-call.call in
+    let x = c.in_ok-call.call in
     let ahead = to_come s (n + 1) b' c.next.new.self in
-    let few : n < 512 = c.if-count-ge-MOST-CALLS.false in
+    let few : n < 512 = c.if-count-ge-MOST_CALLS.false in
     let free : length (entries b) < room b = ltb-true (length (entries b)) (room b) (sym c.has_room.ensures ∙ c.if-not-has_room.false) in
     let t : c.push.result ≡ true = c.push.ensures.test ∙ lt-ltb (length (entries b)) (room b) free in
     let more : entries b' ≡ entries b ++ x ∷ [] = c.push.ensures.entries ∙ cond-true c.push.result (entries b ++ x ∷ []) (entries b) t in
@@ -24,7 +24,7 @@ loop-line-preserved c =
     let past : spare b' ≡ drop 1 (spare b) = c.push.ensures.spare ∙ cond-true c.push.result (drop 1 (spare b)) (spare b) t in
     let fewer = one_fewer n 512 (length (entries b)) (room b) (length (entries b')) (room b') few free len c.push.ensures.room in
     let some = some_left n 512 (length (entries b)) (room b) few free in
-    let whole : to_come s n b c.loop-line.lines ≡ with_call x ahead = one_more s (calls_left n b) (calls_left (n + 1) b') (spot_of c.in-Some.line) x (lines_ahead c.loop-line.lines) (lines_ahead c.next.new.self) c.in-Some.ensures.value c.next.ensures.after some fewer c.in-ok-call.ensures in
+    let whole : to_come s n b c.loop-line.lines ≡ with_call x ahead = one_more s (calls_left n b) (calls_left (n + 1) b') (spot_of c.in-Some.line) x (lines_ahead c.loop-line.lines) (lines_ahead c.next.new.self) c.in-Some.ensures.value c.next.ensures.after some fewer c.in_ok-call.ensures in
     let longer : 1 + length ahead.calls ≡ length (x ∷ ahead.calls) = omega arith in (
       sym (ap (λ (r : Reading). r.result) whole) ∙ c.loop-line.invariant.0,
       ap (λ l. l ++ ahead.calls) more ∙ append_assoc (entries b) (x ∷ []) ahead.calls ∙ sym (ap (λ (r : Reading). entries b ++ r.calls) whole) ∙ c.loop-line.invariant.1,

@@ -15,5 +15,5 @@ returns c = let r = c.args.self.now.words in let ws = r.now in let a = c.args.wo
     record {
       reply = reply_yes (writes a v) (opened ws) inside;
       after = after_yes prompt (writes a v) ws _ inside refl;
-      lent = framed-set r.name a v ws (word_in ws ws 0 0 0 a h);
+      lent = framed-set r.ghost_name a v ws (word_in ws ws 0 0 0 a h);
     }

@@ -7,8 +7,11 @@ use Rattle.objects.proofs.row.Row.from_words.Goals as goal
 pub returns-then-not-all_zero : goal.returns-then-not-all_zero
 returns-then-not-all_zero c = no_picture c.args.words.now (omega arith) (omega arith) _ _ (search rules)
 
-pub invariant-of-result : goal.invariant-of-result
-invariant-of-result c = (omega arith, (wide_made c.args.words.now (omega arith) (omega arith) c.copy_from_slice.new.self c.copy_from_slice.ensures.after, tt))
+pub invariant_of-result : goal.invariant_of-result
+invariant_of-result c = record {
+  few = omega arith;
+  wide = wide_made c.args.words.now (omega arith) (omega arith) c.copy_from_slice.new.self c.copy_from_slice.ensures.after;
+}
 
 pub returns : goal.returns
 returns c =
