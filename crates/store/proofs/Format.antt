@@ -1,7 +1,7 @@
 -- The parts of a format, written one after another, are the whole row.
-use Rattle.std.proofs.Common.{◌≡◌, ℕ, ◌+◌, List, [], ◌∷◌, ◌++◌, length, sym, ap, ◌∙◌}
-use Rattle.memory.specs.Calls.{Call, syncs, each_word, each_line}
-use Rattle.memory.specs.Conduct.{Conduct, after_call, after_calls}
+use Rattle.std.proofs.Common.{◌≡◌, ℕ, ◌+◌, List, ◌++◌, length, sym, ap, ◌∙◌}
+use Rattle.memory.specs.Calls.{Call, each_word}
+use Rattle.memory.specs.Conduct.{Conduct, after_calls}
 use Rattle.memory.proofs.Rows.{calls_join, after_words}
 
 module _ (C : Conduct) where

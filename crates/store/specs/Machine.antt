@@ -1,5 +1,5 @@
 -- The store as a machine: what each call answers, and what table and memory it leaves.
-use Rattle.std.specs.Prelude.{ℕ, Bool, true, false, cond, ◌&&◌, List, is_some, Ok, Err, Result, ◌==◌, nat_le, nat_lt, slice_index, slice_index_or}
+use Rattle.std.specs.Prelude.{ℕ, Bool, true, false, cond, ◌&&◌, is_some, Ok, Err, Result, ◌==◌, nat_le, nat_lt, slice_index, slice_index_or}
 use Rattle.std.specs.Str.{bytes_eq}
 use Rattle.memory.specs.declared.refusal.Refusal.{Refusal as MemoryRefusal}
 use Rattle.memory.specs.Model.{MemoryModel, lines, line}

@@ -4,9 +4,8 @@ use Rattle.memory.specs.Conduct.{Conduct}
 use Rattle.objects.specs.Model.{ObjectModel}
 use Rattle.store.specs.declared.index.Index.{Index}
 use Rattle.store.specs.declared.index.Index.TheVariants.{Zero, One}
-use Rattle.store.specs.declared.table.Table.{Table as TableOf}
 use Rattle.store.specs.declared.store.Store.{Store as StoreOf}
-use Rattle.store.specs.Machine.{Table, Store}
+use Rattle.store.specs.Machine.{Store}
 
 abbrev pub index_word : Index → ℕ
 index_word Zero = 0

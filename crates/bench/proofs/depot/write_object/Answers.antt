@@ -1,4 +1,4 @@
-use Rattle.std.proofs.Common.{◌≡◌, ℕ, List, sym, ap, ◌∙◌}
+use Rattle.std.proofs.Common.{ℕ, List, sym, ap, ◌∙◌}
 use Rattle.listing.specs.Buffers.{written, filled}
 use Rattle.script.specs.declared.setup.ObjectKind.{ObjectKind}
 use Rattle.bench.specs.Scripts.{run_text, model_of}

@@ -1,4 +1,4 @@
-use Rattle.std.proofs.Common.{◌≡◌, ℕ, List, sym, ap, ◌∙◌}
+use Rattle.std.proofs.Common.{ℕ, List, sym, ap, ◌∙◌}
 use Rattle.listing.specs.Buffers.{written, filled}
 use Rattle.memory.specs.Model.{MemoryModel}
 use Rattle.memory.specs.Kinds.{lazy, prompt}

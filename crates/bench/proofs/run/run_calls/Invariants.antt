@@ -1,4 +1,4 @@
-use Rattle.std.proofs.Common.{◌≡◌, ◌+◌, ◌≤◌, ◌++◌, length, drop}
+use Rattle.std.proofs.Common.{◌≡◌, ◌+◌, ◌++◌, length, drop}
 use Rattle.bounded.specs.Entries.{entries, room}
 use Rattle.store.specs.Shown.{shown}
 use Rattle.bench.specs.Runs.{outcomes}

@@ -2,7 +2,7 @@
 use Rattle.std.proofs.Common.{◌≡◌, ◌+◌, ◌≤◌, true, leb, [], ◌++◌, length, drop, sym, ap, ◌∙◌, arith, rules}
 use Rattle.std.proofs.lemmas.List.{append_assoc, append-nil, at_drop_all, take-append-drop}
 use Rattle.std.proofs.lemmas.Bool.{cond-true, le-leb}
-use Rattle.bounded.specs.Entries.{entries, room, spare, lender}
+use Rattle.bounded.specs.Entries.{entries, room, spare}
 use Rattle.listing.specs.Texts.{listing_text}
 use Rattle.listing.specs.Buffers.{filled}
 use Rattle.listing.proofs.Lines.{line, next-line, some_fits, taken, passed}

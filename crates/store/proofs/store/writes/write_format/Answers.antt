@@ -1,6 +1,6 @@
 use Rattle.std.proofs.Common.{◌≡◌, ℕ, ◌+◌, ◌*◌, List, [], ◌∷◌, ◌++◌, length, replicate, refl, ap, ◌∙◌, arith}
 use lib.ListN.{length-replicate}
-use Rattle.memory.specs.Calls.{Call, syncs, each_word, each_line}
+use Rattle.memory.specs.Calls.{syncs, each_word, each_line}
 use Rattle.memory.specs.Conduct.{Conduct, after_calls}
 use Rattle.store.specs.Layout.{contents, lines_used, format_words, format_calls}
 use Rattle.store.proofs.Format.{then_words, then_calls}
