@@ -7,3 +7,8 @@ pub mod Runs
 pub mod Rows
 pub mod Replies
 pub mod Promises
+pub mod Lines
+pub mod Members
+pub mod Arrivals
+pub mod Effects
+pub mod Accepted

@@ -1,0 +1,24 @@
+-- The proof of the theorem, and lemmas on words and lines.
+pub mod Words
+pub mod Stages
+pub mod Lasting
+pub mod Advances
+pub mod Losses
+pub mod Format
+pub mod Invariant
+pub mod History
+pub mod Moves
+pub mod Cuts
+pub mod Starts
+pub mod Arrives
+pub mod Begins
+pub mod Places
+pub mod Turn
+pub mod Serve
+pub mod Phases
+pub mod Leave
+pub mod Gates
+pub mod StepByPhase
+pub mod GoesOn
+pub mod Formats
+pub mod Theorem

@@ -1,0 +1,6 @@
+// The two words that answer a request.
+#[derive(Clone, Copy)]
+pub struct Answer {
+    pub code: u64,
+    pub value: u64,
+}

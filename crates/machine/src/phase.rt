@@ -1,0 +1,16 @@
+// How far a waiting worker has come; the number is the line that is next.
+#[derive(Clone, Copy)]
+pub enum Phase {
+    Gate,
+    Watch,
+    Look,
+    Load(usize),
+    Serve(usize),
+    Store(usize),
+    Ask(usize),
+    Fence,
+    Flip,
+    Mark,
+    Sync,
+    Leave,
+}

@@ -1,0 +1,45 @@
+// The number and the layer of a refusal.
+ghost use Rattle.std.specs.Prelude.{◌≡◌};
+ghost use Rattle.machine.specs.Numbers.{refusal_number, refusal_layer};
+
+use super::{Layer, Refusal};
+use memory::Refusal as MemoryRefusal;
+
+impl Refusal {
+    pub fn number(self) -> u64
+        ensures { result ≡ refusal_number self }
+    {
+        match self {
+            Refusal::NotUp => 1,
+            Refusal::NotDown => 2,
+            Refusal::NoWorker => 3,
+            Refusal::PlaceTaken => 4,
+            Refusal::TurnsUsedUp => 5,
+            Refusal::NotWaiting => 6,
+            Refusal::OtherTurn => 7,
+            Refusal::NotAnswered => 8,
+            Refusal::TurnOutOfRange => 9,
+            Refusal::OtherRequest => 10,
+            Refusal::PlaceNotFree => 11,
+            Refusal::TurnNotNext => 12,
+            Refusal::WorkerCount => 13,
+            Refusal::TooFewLines => 14,
+            Refusal::WrongContents => 15,
+            Refusal::WrongKind => 16,
+            Refusal::WrongIndex => 17,
+            Refusal::NoPicture => 18,
+            Refusal::InMemory(MemoryRefusal::Outside) => 19,
+            Refusal::InMemory(MemoryRefusal::NotAllowed) => 20,
+            Refusal::LoadedNoPicture => 21,
+        }
+    }
+
+    pub fn layer(self) -> Layer
+        ensures { result ≡ refusal_layer self }
+    {
+        match self {
+            Refusal::InMemory(_) => Layer::Module,
+            _ => Layer::Store,
+        }
+    }
+}
