@@ -53,8 +53,7 @@ fn write_setup(setup: Setup, calls: &[Call], out: &mut [u8]) -> usize
 }
 
 // The listing or the fault at the start of `out`; or 1,000,036 with `out` untouched where it does not fit.
-#[unsafe(no_mangle)]
-pub extern "C" fn depot_run(script: &[u8], out: &mut [u8]) -> usize
+pub fn depot_run(script: &[u8], out: &mut [u8]) -> usize
     ensures value { result ≡ written (script_text script.now) out.old }
     ensures out { out.new ≡ filled (script_text script.now) out.old }
 {
