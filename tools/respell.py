@@ -1,6 +1,7 @@
 #!/usr/bin/env python3
 """Brings the repository's own definitions and lemmas to the spelling of this Rattle: words in snake case, types in
-camel case, and a dash only where a lemma's name joins two names.
+camel case, and a dash only where a lemma's name joins two names. In the proof files of functions it gives goals and
+steps the names that they have now, in which a name from the source keeps its underscores.
 
 usage: python3 tools/respell.py [--list]      at the top of the repository, once, after the kit's own scripts
 
@@ -16,7 +17,7 @@ HEAD = re.compile(r"^( *)((?:(?:abbrev|unfoldable|pub|data|record) )*)([^\s(){}:
 MARKS = {"abbrev", "unfoldable", "data", "record"}
 # words of the library that a lemma's name may join by a dash
 LIBRARY = {"length", "take", "drop", "set", "map", "replicate", "append", "cond", "get_or", "add", "sub", "mul", "div", "mod", "pow", "reverse", "count_trailing_zeros"}
-# names that would fall together with another, or that begin with a word that has no other place
+# names that would fall together with a word of the library, or that name a word of it that is gone
 OWN = {
     "bit-or": "bit-bit_or",
     "bit-and": "bit-bit_and",
@@ -150,13 +151,12 @@ def main():
         return
     fallen = []
     # a function of src/ may have the name of the definition that it computes: only proofs and definitions can fall together
-    for ending in (".antt",):
-        for path in files(ending):
-            there = tokens(open(path, encoding="utf-8").read())
-            for a in there & turned.keys():
-                b = turned[a]
-                if b in there or any(turned.get(o) == b and o != a for o in there):
-                    fallen.append(f"{path}: {a} and {b}")
+    for path in files(".antt"):
+        there = tokens(open(path, encoding="utf-8").read())
+        for a in there & turned.keys():
+            b = turned[a]
+            if b in there or any(turned.get(o) == b and o != a for o in there):
+                fallen.append(f"{path}: {a} and {b}")
     if fallen:
         print("\n".join(fallen))
         raise SystemExit("names fall together; nothing was changed")

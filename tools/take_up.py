@@ -2,11 +2,12 @@
 """Lays the unfinished work over the tree: each file of unfinished/ goes to its place (without .txt where the file was a
 source, a proof or an edit), and what unfinished/removed.txt names goes away.
 
-usage: python3 tools/take_up.py      at the top of the repository, once, with everything committed
+usage: python3 tools/take_up.py      at the top of the repository, once; it stops where something is not committed
 """
 
 import os
 import shutil
+import subprocess
 
 SOURCES = (".rt.txt", ".antt.txt", ".edit.txt")
 
@@ -20,6 +21,8 @@ def place(path):
 
 
 def main():
+    if subprocess.run(["git", "status", "--porcelain"], capture_output=True, text=True, check=True).stdout:
+        raise SystemExit("commit first; nothing was changed")
     with open("unfinished/removed.txt", encoding="utf-8") as names:
         for name in names.read().split():
             os.remove(name)

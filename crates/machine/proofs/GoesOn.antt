@@ -13,7 +13,7 @@ use Rattle.machine.specs.declared.phase.Phase.{Phase}
 use Rattle.machine.specs.declared.phase.Phase.TheVariants.{Gate, Watch, Look, Load, Serve, Store, Ask, Fence, Flip, Mark, Sync, Leave}
 use Rattle.machine.specs.declared.refusal.Refusal.TheVariants.{NotUp, NoWorker, NotWaiting}
 use Rattle.machine.specs.Layout.{record_line, worker_at, other}
-use Rattle.machine.specs.Machine.{Place, Step, place_of, turn_word, words_from, wants, gate, made, load, serve_with, step_at, step_place, step as step_of_lem}
+use Rattle.machine.specs.Machine.{Place, Step, place_of, turn_word, words_from, wants, gate, made, load, serve_with, step_at, step_place, step as step_of}
 use Rattle.machine.specs.Machine.{Place.free, Place.waiting, Place.answered}
 use Rattle.machine.specs.Calls.{Call, Machine, image, does, stepped_as, in_memory}
 use Rattle.machine.specs.Calls.{Call.announce, Call.step, Call.collect, Call.note, Call.resume, Call.arrive, Call.cut, Call.start}
@@ -129,7 +129,7 @@ module _ (X : ObjectModel) {C : Conduct} (keeps : Keeps C) where
     holder_on Sync a = leads_one keeps syncs s.memory refl
     holder_on Leave a = done
 
-  step_on : (h : History) (s : Machine X C) (ord : List Request) → Inv X h (seen X C s) ord → (w : ℕ) → Callable (step_of_lem X s.table (image X C s) w) s.memory
+  step_on : (h : History) (s : Machine X C) (ord : List Request) → Inv X h (seen X C s) ord → (w : ℕ) → Callable (step_of X s.table (image X C s) w) s.memory
   step_on h s ord i w = at i.store
     where
       outside : (pl : Place) → Outside pl → Callable (step_place X s.table (image X C s) w pl) s.memory
@@ -158,7 +158,7 @@ module _ (X : ObjectModel) {C : Conduct} (keeps : Keeps C) where
       when_up true x (inr z) = absurd (both_ways true z refl)
       when_up false x k = tt
 
-      at : Up X h (seen X C s) ord ⊎ Down X h (seen X C s) ord → Callable (step_of_lem X s.table (image X C s) w) s.memory
+      at : Up X h (seen X C s) ord ⊎ Down X h (seen X C s) ord → Callable (step_of X s.table (image X C s) w) s.memory
       at (inl u) = when_up s.table.up _ (inl (inside u (ltb w s.table.workers) refl))
       at (inr k) = let up : s.table.up ≡ false = rw k.table refl in when_up s.table.up _ (inr up)
 
@@ -176,7 +176,7 @@ module _ (X : ObjectModel) {C : Conduct} (keeps : Keeps C) where
   -- every call does what it may
   pub moves : (h : History) (s : Machine X C) (ord : List Request) → Inv X h (seen X C s) ord → (c : Call) → Does X c (seen X C s) (does X C c s).0 (seen X C (does X C c s).1)
   moves h s ord i (announce w op arg) = (refl, refl, refl)
-  moves h s ord i (step w) = stepped_on s (step_of_lem X s.table (image X C s) w) (step_on h s ord i w)
+  moves h s ord i (step w) = stepped_on s (step_of X s.table (image X C s) w) (step_on h s ord i w)
   moves h s ord i (collect w t op arg) = (refl, refl, refl)
   moves h s ord i (note w t op arg) = (refl, refl)
   moves h s ord i (resume w t op arg) = (refl, refl, refl)

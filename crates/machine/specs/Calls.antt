@@ -1,5 +1,5 @@
 -- What each call on a store answers, and what table and memory it leaves.
-use Rattle.std.specs.Prelude.{ℕ, ◌+◌, ◌-◌, ◌^◌, Bool, true, false, cond, ◌&&◌, List, replicate, is_some, None, Ok, Err, Result, ◌==◌, nat_le, nat_lt, slice_index, slice_index_or}
+use Rattle.std.specs.Prelude.{ℕ, ◌+◌, ◌-◌, ◌^◌, Bool, true, false, cond, ◌&&◌, List, replicate, is_some, None, Ok, Err, Result, ◌==◌, nat_le, nat_lt, slice_index}
 use Rattle.std.specs.Str.{bytes_eq}
 use Rattle.memory.specs.declared.refusal.Refusal.{Refusal as MemoryRefusal}
 use Rattle.memory.specs.Model.{MemoryModel, lines, line}
@@ -12,7 +12,7 @@ use Rattle.machine.specs.declared.steps.StepAnswer.{StepAnswer}
 use Rattle.machine.specs.declared.refusal.Refusal.{Refusal}
 use Rattle.machine.specs.declared.refusal.Refusal.TheVariants.{NotUp, NotDown, NoWorker, PlaceTaken, TurnsUsedUp, OtherTurn, NotAnswered, TurnOutOfRange, OtherRequest, PlaceNotFree, TurnNotNext, WorkerCount, TooFewLines, WrongContents, WrongKind, WrongIndex, NoPicture, InMemory}
 use Rattle.machine.specs.Layout.{lines_used, contents, object_words, format_calls}
-use Rattle.machine.specs.Machine.{Place, Table, Step, place_of, with_place, turn_word, record_answer, step as step_of_lem}
+use Rattle.machine.specs.Machine.{Place, Table, Step, place_of, with_place, turn_word, record_answer, step as step_of}
 use Rattle.machine.specs.Machine.{Place.free, Place.waiting, Place.answered}
 
 -- a call with its numbers: worker, turn, operation and argument, or a line
@@ -42,7 +42,7 @@ in_memory (Err k) = refused (InMemory k)
 -- line 0 names a number of workers from 1 to 8, is right for it but for the kind, and the lines are there
 abbrev pub contents_fit : MemoryModel → Bool
 contents_fit m =
-    let n = slice_index_or m.current 2 0 in
+    let n = slice_index m.current 2 in
     (nat_le 1 n && nat_le n 8) && (bytes_eq (line 0 m.current) (contents (slice_index m.current 1) n) && nat_le (lines_used n) (lines m))
 
 module _ (X : ObjectModel) where
@@ -111,8 +111,8 @@ module _ (X : ObjectModel) where
   -- what a start finds in the memory: the number of workers and the index, or the first no
   abbrev pub found : MemoryModel → Result (ℕ × ℕ) Refusal
   found m =
-      let n = slice_index_or m.current 2 0 in
-      let r = slice_index_or m.current 8 0 in
+      let n = slice_index m.current 2 in
+      let r = slice_index m.current 8 in
       cond (nat_le 14 (lines m))
       (cond (contents_fit m)
       (cond (slice_index m.current 1 == X.kind)
@@ -157,7 +157,7 @@ module _ (X : ObjectModel) (C : Conduct) where
 
   abbrev pub does : Call → Machine → Done
   does (announce w op arg) s = quiet s (announced X s.table (image s) w op arg)
-  does (step w) s = stepped_as s (step_of_lem X s.table (image s) w)
+  does (step w) s = stepped_as s (step_of X s.table (image s) w)
   does (collect w turn op arg) s = quiet s (collected X s.table (image s) w turn op arg)
   does (note w turn op arg) s = (slip, s)
   does (resume w turn op arg) s = quiet s (resumed X s.table (image s) w turn op arg)

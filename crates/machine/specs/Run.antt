@@ -7,7 +7,7 @@ use Rattle.memory.specs.Calls.{Reach}
 use Rattle.objects.specs.Model.{ObjectModel}
 use Rattle.machine.specs.declared.refusal.Refusal.TheVariants.{InMemory}
 use Rattle.machine.specs.Layout.{lines_used, format_calls}
-use Rattle.machine.specs.Machine.{Table, Step, step as step_of_lem}
+use Rattle.machine.specs.Machine.{Table, Step, step as step_of}
 use Rattle.machine.specs.Calls.{Call, Reply, Outcome, announced, collected, resumed, started, down_table}
 use Rattle.machine.specs.Calls.{Call.announce, Call.step, Call.collect, Call.note, Call.resume, Call.arrive, Call.cut, Call.start}
 use Rattle.machine.specs.Calls.{Reply.stepped, Reply.slip, Reply.ok, Reply.refused}
@@ -40,7 +40,7 @@ module _ (X : ObjectModel) where
   -- from one store a call may give this reply and leave that store
   abbrev pub Does : Call → Store → Reply → Store → Type 0
   Does (announce w op arg) s r s' = Quiet s s' (announced X s.table s.memory.current w op arg) r
-  Does (step w) s r s' = Stepped s s' (step_of_lem X s.table s.memory.current w) r
+  Does (step w) s r s' = Stepped s s' (step_of X s.table s.memory.current w) r
   Does (collect w turn op arg) s r s' = Quiet s s' (collected X s.table s.memory.current w turn op arg) r
   Does (note w turn op arg) s r s' = (r ≡ slip) × (s' ≡ s)
   Does (resume w turn op arg) s r s' = Quiet s s' (resumed X s.table s.memory.current w turn op arg) r

@@ -1,5 +1,5 @@
 // Sets of lines as 64-bit numbers, and copying the lines of a set.
-ghost use Rattle.std.specs.Prelude.{◌≡◌, ℕ, ◌+◌, ◌-◌, ◌*◌, ◌^◌, ◌<◌, ◌≤◌, true, not, ◌||◌, length, if◌then◌else◌, ◌==◌, nat_eq};
+ghost use Rattle.std.specs.Prelude.{◌≡◌, ℕ, ◌+◌, ◌-◌, ◌*◌, ◌^◌, ◌<◌, ◌≤◌, true, not, ◌||◌, length, if◌then◌else◌, ◌==◌};
 ghost use Rattle.memory.specs.Sets.{mem, minus, with_line};
 ghost use Rattle.memory.specs.Held.{line_count};
 ghost use Rattle.memory.specs.Model.{copied};
@@ -68,7 +68,7 @@ pub(crate) fn copy_lines(set: u64, from: &[u64], to: &mut [u64])
 
 // the late lines, of which there are none where no line is due
 pub(crate) fn unless_none(due: u64, late: u64) -> u64
-    ensures { result ≡ (if nat_eq due 0 then 0 else late) }
+    ensures { result ≡ (if due == 0 then 0 else late) }
 {
     if due == 0 { 0 } else { late }
 }
@@ -84,7 +84,7 @@ pub(crate) fn with(set: u64, line: usize) -> u64
 // the late lines after a write to a line: that line too, where some line is due
 pub(crate) fn late_with(due: u64, late: u64, line: usize) -> u64
     requires { line < 64 }
-    ensures { result ≡ (if nat_eq due 0 then late else with_line late line) }
+    ensures { result ≡ (if due == 0 then late else with_line late line) }
 {
     if due == 0 { late } else { with(late, line) }
 }

@@ -1,5 +1,5 @@
 -- The store as a machine: what each call answers, and what table and memory it leaves.
-use Rattle.std.specs.Prelude.{ℕ, Bool, true, false, cond, ◌&&◌, is_some, Ok, Err, Result, ◌==◌, nat_le, nat_lt, slice_index, slice_index_or}
+use Rattle.std.specs.Prelude.{ℕ, Bool, true, false, cond, ◌&&◌, is_some, Ok, Err, Result, ◌==◌, nat_le, nat_lt, slice_index}
 use Rattle.std.specs.Str.{bytes_eq}
 use Rattle.memory.specs.declared.refusal.Refusal.{Refusal as MemoryRefusal}
 use Rattle.memory.specs.Model.{MemoryModel, lines, line}
@@ -18,7 +18,7 @@ in_memory (Err k) = Err (InMemory k)
 -- line 0 names a number of workers from 1 to 8, is right for it but for the kind, and the lines are there
 abbrev pub contents_fit : MemoryModel → Bool
 contents_fit m =
-    let n = slice_index_or m.current 2 0 in
+    let n = slice_index m.current 2 in
     (nat_le 1 n && nat_le n 8) && (bytes_eq (line 0 m.current) (contents (slice_index m.current 1) n) && nat_le (lines_used n) (lines m))
 
 module _ (X : ObjectModel) where
@@ -67,8 +67,8 @@ module _ (X : ObjectModel) (C : Conduct) where
   abbrev pub started : Store → Outcome
   started s =
       let m = C.model s.memory in
-      let n = slice_index_or m.current 2 0 in
-      let r = slice_index_or m.current 8 0 in
+      let n = slice_index m.current 2 in
+      let r = slice_index m.current 8 in
       cond s.table.up (refused NotDown s)
       (cond (nat_le 14 (lines m))
       (cond (contents_fit m)

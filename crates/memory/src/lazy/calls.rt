@@ -1,5 +1,5 @@
 // The calls of the lazy memory module.
-ghost use Rattle.std.specs.Prelude.{◌≡◌, ◌<◌, length, set, if◌then◌else◌};
+ghost use Rattle.std.specs.Prelude.{◌≡◌, ◌<◌, length, if◌then◌else◌, slice_set};
 ghost use Rattle.memory.specs.Model.{arrivals, way};
 ghost use Rattle.memory.specs.Post.{inside_word};
 ghost use Rattle.memory.specs.Calls.{reply, writes};
@@ -146,7 +146,7 @@ impl Memory for Lazy<'_> {
 // Writes one word, asks for its line and syncs: when the loan ends the caller's words hold it, and are otherwise as they were.
 pub fn store_word(memory: &mut [u64], word: usize, value: u64) -> Result<(), Refusal>
     ensures reply { result ≡ reply (writes word value) (opened memory.old) }
-    ensures after { memory.new ≡ (if inside_word word (opened memory.old) then set memory.old word value else memory.old) }
+    ensures after { memory.new ≡ (if inside_word word (opened memory.old) then slice_set memory.old word value else memory.old) }
 {
     let mut m = Lazy::new(memory);
     match m.write(word, value) {
