@@ -5,10 +5,10 @@ pub mod Images
 pub mod Quiet
 pub mod Runs
 pub mod Rows
-pub mod Replies
 pub mod Promises
 pub mod Lines
 pub mod Members
 pub mod Arrivals
 pub mod Effects
 pub mod Accepted
+pub mod Stored

@@ -2,11 +2,9 @@
 use Rattle.std.proofs.Common.{◌≡◌, ℕ, ◌*◌, ◌/◌, ◌^◌, ◌<◌, false, cond, List, length, take, set, sym, refl, ap, subst, arith, length-set}
 use lib.Bits.{and_self, xor_self, or_zero_l, and_zero_l, and_zero_r, xor_zero_r}
 use lib.Seq.{take-set-lt}
-use base.Fml.{GName}
-use Rattle.std.proofs.lemmas.List.{drop-set-lt}
 use Rattle.memory.specs.Sets.{mem, minus, with_line}
 use Rattle.memory.specs.Model.{MemoryModel, Adds, more, arrivals, arrival, put, write, ask, fence, sync}
-use Rattle.memory.specs.Held.{opened, framed, line_count}
+use Rattle.memory.specs.Held.{opened, line_count}
 use Rattle.memory.proofs.Bits.{mem_past}
 use Rattle.memory.proofs.Copies.{copied_none, copied-same, copied-set}
 use Rattle.memory.proofs.Images.{adds_same}
@@ -51,9 +49,6 @@ sync-quiet xs = simp (copied-same, minus-none)
 pub opened-set : (w v : ℕ) (mem : List ℕ) → w < 8 * line_count (length mem) → opened (set mem w v) ≡ quiet (set (take (8 * line_count (length mem)) mem) w v)
 opened-set w v mem h = let e = take-set-lt (8 * line_count (length mem)) mem w v h in let f = length-set mem w v in
     simp length-set (ap quiet e)
-
-pub framed-set : (g : GName) (w v : ℕ) (mem : List ℕ) → w < 8 * line_count (length mem) → framed g (set mem w v) ≡ framed g mem
-framed-set g w v mem h = let e = drop-set-lt (8 * line_count (length mem)) mem w v h in simp length-set (ap (λ r. record { lender = g; rest = r }) e)
 
 pub minus_zero : (s : ℕ) → minus s 0 ≡ s
 unfolding minus

@@ -11,7 +11,7 @@ lazy = record { State = MemoryModel; model = λ m. m; does = effect; loses = cut
 
 -- what a lazy module stands for
 abbrev pub lazy_meaning : Lazy → MemoryModel
-lazy_meaning s = held s.current s.kept.now s.asked s.due s.late
+lazy_meaning s = held s.current s.kept.now s.on_the_way.asked s.on_the_way.due s.on_the_way.late
 
 abbrev pub lazy_frame : Lazy → Frame
 lazy_frame s = framed s.kept.ghost_name s.kept.now

@@ -1,9 +1,9 @@
 -- What a memory module answers, what a cut may leave, and what is so of every module.
-use Rattle.std.specs.Prelude.{◌≡◌, ℕ, ◌*◌, ◌≤◌, Bool, cond, length, Ok, Err, Result, count_ones, nat_lt, slice_index}
+use Rattle.std.specs.Prelude.{◌≡◌, ℕ, ◌*◌, ◌/◌, ◌≤◌, Bool, cond, length, Ok, Err, Result, count_ones, nat_lt, slice_index}
 use Rattle.memory.specs.declared.refusal.Refusal.{Refusal}
 use Rattle.memory.specs.declared.refusal.Refusal.TheVariants.{Outside}
 use Rattle.memory.specs.declared.counts.Counts.{Counts}
-use Rattle.memory.specs.Model.{MemoryModel, Adds, lines, cut}
+use Rattle.memory.specs.Model.{MemoryModel, Adds, lines, write, ask, sync, cut}
 
 abbrev pub inside_word : ℕ → MemoryModel → Bool
 inside_word a m = nat_lt a (length m.kept)
@@ -14,6 +14,10 @@ inside_line i m = nat_lt i (lines m)
 -- the word that is read
 abbrev pub word_at : ℕ → MemoryModel → Result ℕ Refusal
 word_at a m = cond (inside_word a m) (Ok (slice_index m.current a)) (Err Outside)
+
+-- a word that is inside written, its line asked, and all brought
+abbrev pub stores : ℕ → ℕ → MemoryModel → MemoryModel
+stores a v m = cond (inside_word a m) (sync (ask (a / 8) (write a v m))) m
 
 -- how many lines are asked, due and late
 abbrev pub counted : MemoryModel → Counts

@@ -1,5 +1,5 @@
 // How many lines of a memory module are asked, due and late.
-#[derive(Clone, Copy)]
+#[derive(Clone, Copy, Debug, PartialEq, Eq)]
 pub struct Counts {
     pub asked: u32,
     pub due: u32,

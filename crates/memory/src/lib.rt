@@ -3,10 +3,11 @@
 
 mod counts;
 mod lazy;
+mod line;
+mod line_set;
 mod module;
 mod prompt;
 mod refusal;
-mod sets;
 mod worked;
 
 pub use counts::Counts;

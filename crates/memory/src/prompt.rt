@@ -4,9 +4,9 @@ ghost use Rattle.memory.specs.Held.{framed};
 ghost use Rattle.memory.specs.Kinds.{prompt};
 
 use crate::counts::Counts;
+use crate::line::{Line, line_count};
 use crate::module::Memory;
 use crate::refusal::Refusal;
-use crate::sets;
 
 #[derive(Drop)]
 pub struct Prompt<'a> {
@@ -29,8 +29,9 @@ impl Memory for Prompt<'_> {
 
     ghost frame = { λ s. framed s.words.ghost_name s.words.now };
 
+    #[tactic(auto, using(crate::proofs::Promises::prompt_keeps))]
     fn lines(&self) -> usize {
-        sets::line_count(self.words.len())
+        line_count(self.words.len())
     }
 
     fn counts(&self) -> Counts {
@@ -42,24 +43,18 @@ impl Memory for Prompt<'_> {
     }
 
     fn read(&self, word: usize) -> Result<u64, Refusal> {
-        if word / 8 >= self.lines() {
-            return Err(Refusal::Outside);
-        }
+        Line::of_word(self.words.len(), word)?;
         Ok(self.words[word])
     }
 
     fn write(&mut self, word: usize, value: u64) -> Result<(), Refusal> {
-        if word / 8 >= self.lines() {
-            return Err(Refusal::Outside);
-        }
+        Line::of_word(self.words.len(), word)?;
         self.words[word] = value;
         Ok(())
     }
 
     fn ask(&mut self, line: usize) -> Result<(), Refusal> {
-        if line >= self.lines() {
-            return Err(Refusal::Outside);
-        }
+        Line::of(self.words.len(), line)?;
         Ok(())
     }
 
@@ -68,9 +63,7 @@ impl Memory for Prompt<'_> {
     fn sync(&mut self) {}
 
     fn arrive(&mut self, line: usize) -> Result<(), Refusal> {
-        if line >= self.lines() {
-            return Err(Refusal::Outside);
-        }
+        Line::of(self.words.len(), line)?;
         Ok(())
     }
 

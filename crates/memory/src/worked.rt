@@ -1,9 +1,8 @@
 // Worked examples of the rules, proved by computation.
 ghost use Rattle.memory.specs.Worked.{LostAndKept, Late};
 
-pub fn examples_hold() -> u8
+#[tactic(auto, unfolding(crate::specs::Sets::mem, crate::specs::Sets::with_line, crate::specs::Sets::minus, crate::specs::Model::copied))]
+pub fn examples_hold()
     ensures cut { LostAndKept }
     ensures late { Late }
-{
-    0
-}
+{}

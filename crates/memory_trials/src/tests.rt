@@ -1,14 +1,11 @@
 // Cases of the rules, and cases at the edges of both memory modules.
-use memory::{Lazy, Memory, Prompt, Refusal, store_word};
+use memory::{Counts, Lazy, Memory, Prompt, Refusal, store_word};
 use std::process::Abort;
 use std::test::Fail;
 
 // Checks how many lines are asked, due and late.
 fn on_their_way<M: Memory>(rt: &impl Abort, module: &M, asked: u32, due: u32, late: u32) {
-    let counts = module.counts();
-    assert_eq!(rt; counts.asked, asked);
-    assert_eq!(rt; counts.due, due);
-    assert_eq!(rt; counts.late, late);
+    assert_eq!(rt; module.counts(), Counts { asked, due, late });
 }
 
 // Checks that a module has that many lines and refuses what lies past them, and stores 6 in its last word.

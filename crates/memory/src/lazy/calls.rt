@@ -1,62 +1,92 @@
 // The calls of the lazy memory module.
-ghost use Rattle.std.specs.Prelude.{◌≡◌, ◌<◌, length, if◌then◌else◌, slice_set};
-ghost use Rattle.memory.specs.Model.{arrivals, way};
-ghost use Rattle.memory.specs.Post.{inside_word};
+ghost use Rattle.std.specs.Prelude.{◌≡◌, ◌*◌, ◌/◌, ◌<◌, length, if◌then◌else◌, slice_index, slice_set};
+ghost use Rattle.memory.specs.Model.{arrivals, way, write};
+ghost use Rattle.memory.specs.Post.{inside_word, stores};
 ghost use Rattle.memory.specs.Calls.{reply, writes};
-ghost use Rattle.memory.specs.Held.{opened, framed};
+ghost use Rattle.memory.specs.Held.{opened, front, framed, line_count};
 ghost use Rattle.memory.specs.Kinds.{lazy, lazy_meaning, lazy_frame};
 
 use super::Lazy;
+use super::on_the_way::OnTheWay;
 use crate::counts::Counts;
+use crate::line::{Line, line_count};
+use crate::line_set::{LineSet, copy_lines};
 use crate::module::Memory;
 use crate::refusal::Refusal;
-use crate::sets;
 
 impl<'a> Lazy<'a> {
     pub fn new(memory: &'a mut [u64]) -> Lazy<'a>
         ensures after { lazy_meaning result ≡ opened memory.old }
         ensures lent { lazy_frame result ≡ framed memory.entry.ghost_name memory.old }
     {
-        let words = 8 * sets::line_count(memory.len());
-        let mut current = [0; 512];
-        for i in 0..words {
-            current[i] = memory[i];
-        }
-        Lazy {
+        let mut module = Lazy {
             kept: memory,
-            current,
-            asked: 0,
-            due: 0,
-            late: 0,
-        }
+            current: [0; 512],
+            on_the_way: OnTheWay::none(),
+        };
+        module.current = module.image();
+        module
     }
 }
 
 impl Lazy<'_> {
-    fn arrive_all(&mut self, set: u64)
+    // The words of the whole lines, as they are kept.
+    fn image(&self) -> [u64; 512]
+        ensures { front self.now.kept.now result ≡ front self.now.kept.now self.now.kept.now }
+    {
+        let words = 8 * self.lines();
+        let mut image = [0; 512];
+        image[..words].copy_from_slice(&self.kept[..words]);
+        image
+    }
+
+    // Lets the lines of a set arrive.
+    #[tactic(auto, using(crate::proofs::Images::in_images, crate::proofs::Images::held_arrivals))]
+    fn arrive_all(&mut self, set: LineSet)
         ensures after { lazy_meaning self.new ≡ arrivals set (lazy_meaning self.old) }
         ensures lent { lazy_frame self.new ≡ lazy_frame self.old }
         ensures long { length self.new.kept.now ≡ length self.old.kept.now }
     {
         let Lazy { kept, current, .. } = self;
-        let inside = sets::below(sets::line_count(kept.len()));
-        sets::copy_lines(set & inside, current, kept);
-        self.asked = sets::without(self.asked, set);
-        self.due = sets::without(self.due, set);
-        self.late = sets::unless_none(self.due, self.late);
+        copy_lines(set.within(LineSet::inside(kept.len())), current, kept);
+        self.on_the_way.arrive(set);
     }
 
     // Lets the due lines arrive where the line is one of them.
-    fn make_way(&mut self, line: usize)
-        requires { line < 64 }
+    fn make_way(&mut self, line: Line)
         ensures after { lazy_meaning self.new ≡ way line (lazy_meaning self.old) }
         ensures lent { lazy_frame self.new ≡ lazy_frame self.old }
         ensures long { length self.new.kept.now ≡ length self.old.kept.now }
     {
-        let due = self.due;
-        if sets::contains(due, line) {
+        let due = self.on_the_way.due;
+        if due.contains(line) {
             self.arrive_all(due);
         }
+    }
+
+    // Writes a word of the line, after making way.
+    fn put(&mut self, line: Line, word: usize, value: u64)
+        requires line { line ≡ word / 8 }
+        requires inside { word < 8 * line_count (length self.old.kept.now) }
+        ensures after { lazy_meaning self.new ≡ write word value (lazy_meaning self.old) }
+        ensures lent { lazy_frame self.new ≡ lazy_frame self.old }
+    {
+        self.make_way(line);
+        self.current[word] = value;
+        self.on_the_way.wrote(line);
+    }
+
+    // Writes one word, asks for its line and syncs.
+    fn store(&mut self, word: usize, value: u64) -> Result<(), Refusal>
+        ensures reply { result ≡ reply (writes word value) (lazy_meaning self.old) }
+        ensures after { lazy_meaning self.new ≡ stores word value (lazy_meaning self.old) }
+        ensures lent { lazy_frame self.new ≡ lazy_frame self.old }
+    {
+        let line = Line::of_word(self.kept.len(), word)?;
+        self.put(line, word, value);
+        self.on_the_way.ask(line);
+        self.sync();
+        Ok(())
     }
 }
 
@@ -67,94 +97,61 @@ impl Memory for Lazy<'_> {
 
     ghost frame = { lazy_frame };
 
+    #[tactic(auto, using(crate::proofs::Promises::lazy_keeps))]
     fn lines(&self) -> usize {
-        let current: &[u64] = &self.current;
-        sets::line_count(self.kept.len().min(current.len()))
+        line_count(self.kept.len())
     }
 
     fn counts(&self) -> Counts {
-        Counts {
-            asked: self.asked.count_ones(),
-            due: self.due.count_ones(),
-            late: self.late.count_ones(),
-        }
+        self.on_the_way.counts()
     }
 
     fn read(&self, word: usize) -> Result<u64, Refusal> {
-        if word / 8 >= self.lines() {
-            return Err(Refusal::Outside);
-        }
+        Line::of_word(self.kept.len(), word)?;
         Ok(self.current[word])
     }
 
     fn write(&mut self, word: usize, value: u64) -> Result<(), Refusal> {
-        let line = word / 8;
-        if line >= self.lines() {
-            return Err(Refusal::Outside);
-        }
-        self.make_way(line);
-        self.current[word] = value;
-        self.late = sets::late_with(self.due, self.late, line);
+        self.put(Line::of_word(self.kept.len(), word)?, word, value);
         Ok(())
     }
 
     fn ask(&mut self, line: usize) -> Result<(), Refusal> {
-        if line >= self.lines() {
-            return Err(Refusal::Outside);
-        }
-        self.asked = sets::with(self.asked, line);
+        self.on_the_way.ask(Line::of(self.kept.len(), line)?);
         Ok(())
     }
 
     fn fence(&mut self) {
-        self.arrive_all(self.due);
-        self.due = self.asked;
-        self.asked = 0;
-        self.late = 0;
+        self.arrive_all(self.on_the_way.due);
+        self.on_the_way.fence();
     }
 
     fn sync(&mut self) {
-        self.arrive_all(self.due);
-        self.arrive_all(self.asked);
-        self.asked = 0;
-        self.due = 0;
-        self.late = 0;
+        self.arrive_all(self.on_the_way.due);
+        self.arrive_all(self.on_the_way.asked);
+        self.on_the_way = OnTheWay::none();
     }
 
     fn arrive(&mut self, line: usize) -> Result<(), Refusal> {
-        if line >= self.lines() {
-            return Err(Refusal::Outside);
-        }
-        if !sets::may_arrive(self.due, self.late, line) {
+        let line = Line::of(self.kept.len(), line)?;
+        if !self.on_the_way.may_arrive(line) {
             return Err(Refusal::NotAllowed);
         }
-        self.arrive_all(sets::only(line));
+        self.arrive_all(LineSet::only(line));
         Ok(())
     }
 
     fn cut(&mut self) {
-        let words = 8 * self.lines();
-        for i in 0..words {
-            self.current[i] = self.kept[i];
-        }
-        self.asked = 0;
-        self.due = 0;
-        self.late = 0;
+        self.current = self.image();
+        self.on_the_way = OnTheWay::none();
     }
 }
 
-// Writes one word, asks for its line and syncs: when the loan ends the caller's words hold it, and are otherwise as they were.
+// Stores one word: when the loan ends the caller's words hold it, and are otherwise as they were.
 pub fn store_word(memory: &mut [u64], word: usize, value: u64) -> Result<(), Refusal>
     ensures reply { result ≡ reply (writes word value) (opened memory.old) }
     ensures after { memory.new ≡ (if inside_word word (opened memory.old) then slice_set memory.old word value else memory.old) }
 {
-    let mut m = Lazy::new(memory);
-    match m.write(word, value) {
-        Ok(()) => {
-            let _ = m.ask(word / 8);
-            m.sync();
-            Ok(())
-        }
-        Err(refusal) => Err(refusal),
-    }
+    let mut module = Lazy::new(memory);
+    module.store(word, value)
 }
