@@ -17,7 +17,7 @@ use Rattle.machine.specs.Follows.{seen}
 use Rattle.machine.proofs.Format.{length_format}
 
 refused-ok : {k : Refusal} → refused k ≡ ok → ⊥
-refused-ok e = let z : ◌≡◌ {A = ℕ} 0 1 = cc in omega arith
+refused-ok e = grind arith
 
 module _ (X : ObjectModel) (law : Lawful X) {C : Conduct} (keeps : Keeps C) where
   abbrev calls : ℕ → List Call

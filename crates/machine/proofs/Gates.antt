@@ -1,6 +1,7 @@
 -- Steps outside a round: Gate, Watch, Look.
 use Rattle.std.proofs.Common.{◌≡◌, ℕ, ◌+◌, ◌<◌, ◌≤◌, Bool, true, false, cond, eqb, ◌⊎◌, List, [], ◌∷◌, length, get_or, set, Some, None, Option, sym, refl, ap, ◌∙◌, subst, inl, inr, arith, length-set, get_or-set_other, get_or-set_same}
 use Rattle.std.proofs.lemmas.Bool.{eqb-true, cases_eq}
+use Rattle.std.proofs.lemmas.Option.{none-some}
 use Rattle.memory.proofs.Lines.{line_word, line_first}
 use Rattle.memory.proofs.Effects.{reach_nil}
 use Rattle.objects.specs.Model.{ObjectModel}
@@ -16,7 +17,7 @@ use Rattle.machine.specs.Calls.{Call.step, Reply.stepped}
 use Rattle.machine.specs.Run.{History, Store as Depot, Stepped}
 use Rattle.machine.specs.Order.{Request, Explained, of_worker, last_for, running, answered_by, becomes}
 use Rattle.machine.proofs.Invariant.{Stands, OutPhase, Matches, Told, PlaceOk, Idle, LockOk, Up}
-use Rattle.machine.proofs.Moves.{Next, depot_path, same-order, up-place, none_some}
+use Rattle.machine.proofs.Moves.{Next, depot_path, same-order, up-place}
 use Rattle.machine.proofs.History.{told-idle, told_event, last_of_for, explained_stands}
 use Rattle.machine.proofs.Turn.{quiet_step, match_phase}
 
@@ -136,7 +137,7 @@ module _ (X : ObjectModel) where
         let f : last_for w turn h ≡ Some (record { worker = w; turn = turn; op = op; arg = arg }) = last_of_for w h (record { worker = w; turn = turn; op = op; arg = arg }) k.0 in
         let by : answered_by (step w, stepped AnswerFound) h ≡ Some (w, turn) = rw k.0 refl in
         subst (λ (z : Depot X). Next X ((step w, r) ∷ h) z ord) (sym q) (rw d.0 (same-order X _ _ ord (record {
-          told = told_event X (step w, stepped AnswerFound) h ord told (λ v z p a b c. c) (λ g c. absurd (none_some refl c))
+          told = told_event X (step w, stepped AnswerFound) h ord told (λ v z p a b c. c) (λ g c. absurd (none-some _ c))
               (λ v z c. stands_by w turn v z ord _ by c (explained_stands X ord _ x));
           store = inl (up-place X h ((step w, stepped AnswerFound) ∷ h) s ord u w (answered turn op arg (record_answer X s.table s.memory.current w)) below refl (λ v ne. (refl, λ z. refl)) (f, x)
               (rw pl tt) tt (λ qs y. unserved count qs (rw pl at y)));

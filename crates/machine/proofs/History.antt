@@ -3,6 +3,7 @@ use Rattle.std.proofs.Common.{◌≡◌, ℕ, suc, ◌+◌, ◌<◌, ◌≤◌, 
 use mathlib.Core.List.Memᴰ
 use mathlib.Core.List.{Memᴰ}
 use Rattle.std.proofs.lemmas.Bool.{eqb-true, eq-eqb}
+use Rattle.std.proofs.lemmas.Option.{none-some}
 use Rattle.objects.specs.Model.{ObjectModel}
 use Rattle.machine.specs.Calls.{Call, Reply}
 use Rattle.machine.specs.Run.{History}
@@ -80,7 +81,7 @@ for_is w t (Some p) a ih q e = go (eqb p.worker w) refl (eqb p.turn t) refl
     go false h y k = ih q (rw h at e)
 
 pub last_for_is : (w t : ℕ) (h : History) (q : Request) → last_for w t h ≡ Some q → Is w t q
-last_for_is w t [] q e = let z : ◌≡◌ {A = ℕ} 0 1 = cc in absurd (omega arith)
+last_for_is w t [] q e = absurd (grind arith)
 last_for_is w t (x ∷ h) q e = for_is w t (accepted x) (last_for w t h) (λ p k. last_for_is w t h p k) q e
 
 -- a row of turns
@@ -136,7 +137,7 @@ accepted_by v u e q h (Some p) is ih k = go (eqb p.worker v && eqb p.turn u) k
     go false k = accepted-later e q h (ih k)
 
 last-accepted : (v u : ℕ) (q : Request) (h : History) → last_for v u h ≡ Some q → Accepted q h
-last-accepted v u q [] k = absurd (let z : ◌≡◌ {A = ℕ} 0 1 = cc in omega arith)
+last-accepted v u q [] k = absurd (grind arith)
 last-accepted v u q (e ∷ h) k = accepted_by v u e q h (accepted e) refl (λ i. last-accepted v u q h i) k
 
 -- one more call
@@ -197,11 +198,8 @@ module _ (X : ObjectModel) where
       accepted e ≡ None → gave e ≡ None → answered_by e h ≡ None → Told X (e ∷ h) ord
   told-idle e h ord told a g b = told_event e h ord told
       (λ w u q _ _ k. rw a k)
-      (λ p k. absurd (none_some g k))
-      (λ w t k. absurd (none_some b k))
-    where
-      none_some : {A : Type 0} {o : Option A} {x : A} → o ≡ None → o ≡ Some x → ⊥
-      none_some p q = let z : ◌≡◌ {A = ℕ} 0 1 = cc in omega arith
+      (λ p k. absurd (none-some _ (sym g ∙ k)))
+      (λ w t k. absurd (none-some _ (sym b ∙ k)))
 
   -- the order grows at its end
   pub told_grow : (h : History) (ord new : List Request) → Told X h ord →

@@ -1,7 +1,8 @@
 -- Leave: the round ends, and the order grows by all that it served.
-use Rattle.std.proofs.Common.{◌≡◌, ℕ, suc, ◌+◌, ◌<◌, ◌⊎◌, List, [], ◌∷◌, ◌++◌, map, length, get_or, Some, None, sym, refl, ap, ◌∙◌, subst, inl, inr, arith, length-append}
+use Rattle.std.proofs.Common.{◌≡◌, ℕ, ◌+◌, ◌<◌, ◌⊎◌, List, ◌∷◌, ◌++◌, map, length, get_or, Some, None, sym, refl, ap, ◌∙◌, subst, inl, inr, arith, length-append}
 use lib.ListN.{get_or-map}
 use Rattle.std.proofs.lemmas.Bool.{cases_eq}
+use Rattle.std.proofs.lemmas.List.{length-map}
 use Rattle.memory.proofs.Effects.{reach_nil}
 use Rattle.objects.specs.Model.{ObjectModel}
 use Rattle.machine.specs.declared.phase.Phase.TheVariants.{Gate, Watch, Look, Load, Serve, Store, Ask, Fence, Flip, Mark, Sync, Leave}
@@ -19,10 +20,6 @@ use Rattle.machine.proofs.Stages.{other-bit}
 use Rattle.machine.proofs.History.{told-idle, told_grow, of_worker-append, explained_append}
 use Rattle.machine.proofs.Turn.{quiet_step}
 use Rattle.machine.proofs.Cuts.{served-turns}
-
-length-map : (f : Place → Place) (l : List Place) → length (map f l) ≡ length l
-length-map f [] = refl
-length-map f (x ∷ l) = ap suc (length-map f l)
 
 module _ (X : ObjectModel) where
   woken_out : (pl : Place) → Outside pl → Outside (woken pl)
@@ -97,7 +94,7 @@ module _ (X : ObjectModel) where
             most = u.most;
             bit = other-bit t.settled u.bit;
             is_up = u.is_up;
-            eight = length-map (woken) t.places ∙ u.eight;
+            eight = length-map t.places woken ∙ u.eight;
             places = λ v b. rw (at v) (woken-ok v h' (ord ++ i.served) (place_of X t v) (place_grow v h' ord i.served (place_of X t v) (i.each v) (u.places v b)));
             head = u.head;
             shows = record { workers = i.workers; object = i.object };

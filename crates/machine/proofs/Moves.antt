@@ -16,9 +16,6 @@ use Rattle.machine.proofs.Invariant.{OutPhase, Outside, MemoryAt, Matches, Place
 use Rattle.machine.proofs.History.{told-idle}
 use Rattle.machine.proofs.Lasting.{steady-adds, asking_adds, fenced_adds, flipping-adds, marked_adds}
 
-pub none_some : {A : Type 0} {o : Option A} {x : A} → o ≡ None → o ≡ Some x → ⊥
-none_some p q = let z : ◌≡◌ {A = ℕ} 0 1 = cc in omega arith
-
 -- a holder's phase is inside a round
 pub not_out : (n s : ℕ) (p : Phase) (m : MemoryModel) → MemoryAt n s p m → OutPhase p → ⊥
 not_out n s Gate m a b = a

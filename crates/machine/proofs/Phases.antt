@@ -143,7 +143,7 @@ module _ (X : ObjectModel) (law : Lawful X) where
     nobody (q ∷ qs) k =
         let e : eqb q.worker q.worker ≡ true = eq-eqb q.worker q.worker refl in
         let f : q ∷ of_worker q.worker qs ≡ [] = rw e at (k q.worker) in
-        let z : ◌≡◌ {A = ℕ} 0 1 = cc in absurd (omega arith)
+        absurd (grind arith)
 
     load-more : (k : ℕ) (i : In (Load k)) (r : Reply) → k < 4 → r ≡ stepped LineLoaded →
         s'.table ≡ turned X s.table w (at (Load (k + 1))) (loaded k) s.table.working → s'.memory ≡ s.memory → Next X ((step w, r) ∷ h) s' ord

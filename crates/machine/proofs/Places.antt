@@ -1,6 +1,7 @@
 -- announce, collect, resume, note: calls that touch one place at most.
 use Rattle.std.proofs.Common.{◌≡◌, ℕ, ◌+◌, ◌-◌, ◌^◌, ◌<◌, ◌≤◌, Bool, true, false, cond, ◌&&◌, eqb, ltb, leb, ◌≢◌, ◌⊎◌, List, ◌∷◌, length, Some, None, Option, sym, refl, ◌∙◌, subst, inl, inr, arith}
 use Rattle.std.proofs.lemmas.Bool.{ltb-true, leb-true, eqb-true, eq-eqb, ne_eqb, cases_eq}
+use Rattle.std.proofs.lemmas.Option.{none-some}
 use Rattle.memory.proofs.Lines.{line_word, line_first}
 use Rattle.objects.specs.Model.{ObjectModel}
 use Rattle.machine.specs.declared.answer.Answer.{Answer}
@@ -16,7 +17,7 @@ use Rattle.machine.specs.Calls.{Call.announce, Call.collect, Call.note, Call.res
 use Rattle.machine.specs.Run.{History, Store as Depot, Does, Quiet}
 use Rattle.machine.specs.Order.{Request, Given, Explained, of_worker, last_of, last_for, running, answered_by, gave, accepted, or_else, for_worker, for_turn}
 use Rattle.machine.proofs.Invariant.{Matches, Told, PlaceOk, Up, Down, Inv}
-use Rattle.machine.proofs.Moves.{Next, depot_path, same-order, up-place, up-history, place-history, store-idle, inv_idle, none_some}
+use Rattle.machine.proofs.Moves.{Next, depot_path, same-order, up-place, up-history, place-history, store-idle, inv_idle}
 use Rattle.machine.proofs.History.{told_event, last_of_for}
 
 -- a request accepted: it is its worker's last, and the last for its turn
@@ -46,7 +47,7 @@ module _ (X : ObjectModel) where
   told_accept : (e : Call × Reply) (h : History) (ord : List Request) (q : Request) → Told X h ord →
       accepted e ≡ Some q → gave e ≡ None → answered_by e h ≡ None →
       (1 ≤ q.turn → q.turn ≤ length (of_worker q.worker ord) → last_for q.worker q.turn h ≡ Some q) → Told X (e ∷ h) ord
-  told_accept e h ord q told a g b k = told_event X e h ord told keep (λ x c. absurd (none_some g c)) (λ x z c. absurd (none_some b c))
+  told_accept e h ord q told a g b k = told_event X e h ord told keep (λ x c. absurd (none-some _ (sym g ∙ c))) (λ x z c. absurd (none-some _ (sym b ∙ c)))
     where
       keep : (v u : ℕ) (p : Request) → 1 ≤ u → u ≤ length (of_worker v ord) → last_for v u h ≡ Some p → last_for v u (e ∷ h) ≡ Some p
       keep v u p c d f = go (cases_eq v q.worker) (cases_eq u q.turn)
@@ -120,7 +121,7 @@ module _ (X : ObjectModel) where
       where
         unmatched : (qs : List Request) → Matches w ord free qs → Matches w ord (waiting turn op arg Gate) qs
         unmatched qs (inl y) = inl y
-        unmatched qs (inr (t₂, op₂, arg₂, p₂, pl, q, l)) = let z : ◌≡◌ {A = ℕ} 0 1 = cc in absurd (omega arith)
+        unmatched qs (inr (t₂, op₂, arg₂, p₂, pl, q, l)) = absurd (grind arith)
 
     pub keeps_announce : (w op arg : ℕ) (r : Reply) → Does X (announce w op arg) s r s' → Next X ((announce w op arg, r) ∷ h) s' ord
     keeps_announce w op arg r d = when_up (announce w op arg) w r _ (λ k. refl) (λ k. refl) (λ k. refl) (λ k. refl) d (λ u b d. go u b (place_of X s.table w) refl d)
@@ -153,7 +154,7 @@ module _ (X : ObjectModel) where
             let p : s' ≡ record { table = t'; memory = s.memory } = depot_path X s' t' s.memory d.1 d.2 in
             let k : PlaceOk X w h ord (answered turn o a z) = rw e at (u.places w b) in
             subst (λ (y : Depot X). Next X ((collect w turn op arg, r) ∷ h) y ord) (sym p) (rw d.0 (same-order X _ _ ord (record {
-              told = told_event X (collect w turn op arg, answer z) h ord i.told (λ v x y l m n. n) (λ g c. gift g c k.1) (λ v x c. absurd (none_some refl c));
+              told = told_event X (collect w turn op arg, answer z) h ord i.told (λ v x y l m n. n) (λ g c. gift g c k.1) (λ v x c. absurd (none-some _ c));
               store = inl (up-place X h ((collect w turn op arg, answer z) ∷ h) s ord u w free b refl (λ v ne. (refl, λ x. refl)) tt (rw e tt) tt
                   (λ qs m. unmatched qs (rw e at m)));
             })))
@@ -163,7 +164,7 @@ module _ (X : ObjectModel) where
 
             unmatched : (qs : List Request) → Matches w ord (answered turn o a z) qs → Matches w ord free qs
             unmatched qs (inl y) = inl y
-            unmatched qs (inr (t₂, op₂, arg₂, p₂, pl, q, l)) = let y : ◌≡◌ {A = ℕ} 0 1 = cc in absurd (omega arith)
+            unmatched qs (inr (t₂, op₂, arg₂, p₂, pl, q, l)) = absurd (grind arith)
 
         turn_is : Up X h s ord → w < s.table.workers → (t o a : ℕ) (z : Answer) → place_of X s.table w ≡ answered t o a z → (y : Bool) → eqb t turn ≡ y →
             Quiet X s s' (cond y (answer z, with_place X s.table w free) (refused OtherTurn, s.table)) r → Next X ((collect w turn op arg, r) ∷ h) s' ord
@@ -221,7 +222,7 @@ module _ (X : ObjectModel) where
             let z = record_answer X s.table s.memory.current w in
             let p : s' ≡ s = depot_path X s' s.table s.memory d.1 d.2 in
             subst (λ (y : Depot X). Next X ((call, r) ∷ h) y ord) (sym p) (rw d.0 (same-order X _ _ ord (record {
-              told = told_event X (call, answer z) h ord i.told (λ v x y l m n. n) (λ g c. gift z g c (recorded u w turn b one e)) (λ v x c. absurd (none_some refl c));
+              told = told_event X (call, answer z) h ord i.told (λ v x y l m n. n) (λ g c. gift z g c (recorded u w turn b one e)) (λ v x c. absurd (none-some _ c));
               store = store-idle X (call, answer z) h s ord refl refl i.store;
             })))
           where

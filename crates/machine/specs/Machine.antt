@@ -2,8 +2,7 @@
 use Rattle.std.specs.Prelude.{ℕ, zero, suc, ◌+◌, ◌*◌, Bool, cond, List, [], ◌∷◌, ◌++◌, map, take, drop, Some, None, Option, ◌==◌, nat_lt, slice_index, slice_index_or, slice_set}
 use Rattle.memory.specs.Model.{line}
 use Rattle.memory.specs.Calls.{Call, writes, asks, fences, syncs, each_word}
-use Rattle.objects.specs.declared.answer.Answer.{Answer as ObjectAnswer}
-use Rattle.objects.specs.Answers.{answer_code, answer_value}
+use Rattle.objects.specs.Answers.{Answer as ObjectAnswer, answer_code, answer_value}
 use Rattle.objects.specs.Model.{ObjectModel}
 use Rattle.machine.specs.declared.answer.Answer.{Answer}
 use Rattle.machine.specs.declared.phase.Phase.{Phase}

@@ -1,5 +1,5 @@
 // The two words that answer a request.
-#[derive(Clone, Copy)]
+#[derive(Clone, Copy, Debug, PartialEq, Eq)]
 pub struct Answer {
     pub code: u64,
     pub value: u64,

@@ -1,5 +1,5 @@
 // How far a waiting worker has come; the number is the line that is next.
-#[derive(Clone, Copy)]
+#[derive(Clone, Copy, Debug, PartialEq, Eq)]
 pub enum Phase {
     Gate,
     Watch,

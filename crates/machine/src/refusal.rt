@@ -1,15 +1,18 @@
 // The numbered questions that a call answers with no, and the layer that asks each.
 mod numbers;
 
+ghost use Rattle.std.specs.Prelude.{◌≡◌};
+ghost use Rattle.machine.specs.declared.refusal.Refusal.TheVariants.{InMemory};
+
 use memory::Refusal as MemoryRefusal;
 
-#[derive(Clone, Copy)]
+#[derive(Clone, Copy, Debug, PartialEq, Eq)]
 pub enum Layer {
     Store,
     Module,
 }
 
-#[derive(Clone, Copy)]
+#[derive(Clone, Copy, Debug, PartialEq, Eq)]
 pub enum Refusal {
     NotUp,
     NotDown,
@@ -31,4 +34,13 @@ pub enum Refusal {
     NoPicture,
     InMemory(MemoryRefusal),
     LoadedNoPicture,
+}
+
+// A refusal of the memory, handed on.
+impl From<MemoryRefusal> for Refusal {
+    ghost from_gives = { λ r e. e ≡ InMemory r };
+
+    fn from(refusal: MemoryRefusal) -> Refusal {
+        Refusal::InMemory(refusal)
+    }
 }

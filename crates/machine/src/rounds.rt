@@ -13,8 +13,8 @@ pub fn round_steps(workers: u64) -> Option<u64>
     ensures cases { WorkedCases }
 {
     compute_cases();
-    if workers < 1 || workers > 8 {
-        return None;
+    match workers {
+        1..=8 => Some(2 * workers + 21),
+        _ => None,
     }
-    Some(2 * workers + 21)
 }

@@ -1,99 +1,103 @@
 -- What the code of a row does to its array is what the definitions say of the entries kept in it.
-use Rattle.std.proofs.Common.{◌≡◌, ℕ, zero, suc, ◌+◌, ◌-◌, ◌<◌, ◌≤◌, Bool, true, false, cond, eqb, ltb, leb, List, [], ◌∷◌, ◌++◌, length, get_or, take, drop, set, replicate, sym, refl, ap, ◌∙◌, arith, length-append, length-drop, length-take, lt-ltb, eq-eqb, ne_eqb, le-leb}
-use Rattle.std.proofs.lemmas.List.{get_or-take, take-take, take_more_set, take-append-le, drop-take, drop-replicate, length-take-le, at_drop_more, take_all, take_at}
+use Rattle.std.proofs.Common.{◌≡◌, Ok, Err, Some, None, ℕ, ◌+◌, ◌-◌, ◌<◌, ◌≤◌, Bool, true, false, ltb, List, [], ◌∷◌, ◌++◌, length, get_or, take, drop, set, replicate, sym, ap, ◌∙◌, inl, inr, arith, ap₂, append_assoc, add-one, length-append, length-drop, length-take, lt-ltb, eq-eqb, le-leb, slice_get}
+use Rattle.std.specs.List.{between, remove}
+use Rattle.std.specs.Option.{ok_or}
+use Rattle.std.proofs.lemmas.List.{take-take, take_more_set, drop-replicate, length-take-le, take_all, take_at, drop-drop}
+use Rattle.std.proofs.lemmas.Slice.{between_is, between_to_end}
 use Rattle.std.proofs.lemmas.Bool.{cond-true, cond-false}
-use Rattle.objects.specs.declared.answer.Answer.TheVariants.{Done}
-use Rattle.objects.specs.Rows.{clip, with_put, oldest, newest, but_newest, pictured, zeros, is_picture, named}
+use borrow.Rule.Slice.PartMut.{put_mid}
+use Rattle.objects.specs.declared.answer.Denied.{Denied}
+use Rattle.objects.specs.declared.answer.Denied.TheVariants.{Empty}
+use Rattle.objects.specs.declared.row.Row.{Row}
+use Rattle.objects.specs.Rows.{First, Rest, clip, answer_to_put, with_put, pictured, zeros, is_picture, read}
+use Rattle.objects.specs.Held.{held}
+use Rattle.objects.specs.Places.{Place, OneAt}
+use Rattle.objects.specs.Deeds.{sound}
 
--- the first n words of an array, n of them and at most 32
-module _ (xs : List ℕ) (n : ℕ) (within : n ≤ length xs) (few : n ≤ 32) where
-  counted : length (take n xs) ≡ n
-  counted = length-take-le n xs within
+module _ (row : Row) where
+  abbrev pub kept : List ℕ
+  kept = take row.count row.items
 
-  whole : take 32 (take n xs) ≡ take n xs
-  whole = take_all 32 (take n xs) (simp length-take (omega arith))
+  counted : length kept ≡ row.count
+  counted = let few = row.few in let wide = row.wide in length-take-le row.count row.items (omega arith)
 
-  pub counted-whole : n ≡ length (take 32 (take n xs))
-  counted-whole = let l = counted in let w = whole in simp (w, l)
+  whole : take 32 kept ≡ kept
+  whole = let few = row.few in take_all 32 kept (simp counted few)
 
-  pub put_leaves : (m v : ℕ) → m ≡ n → m < length xs → m < 32 → clip (take (m + 1) (set xs m v)) ≡ with_put (clip (take n xs)) v
-  put_leaves m v e l h =
-      let below : ltb (length (take 32 (take n xs))) 32 ≡ true = lt-ltb (length (take 32 (take n xs))) 32 (omega (arith, counted-whole)) in
-      let kept : take m xs ≡ take 32 (take n xs) = ap (λ (k : ℕ). take k xs) e ∙ sym whole in
-      ap clip (take_more_set xs m v l ∙ ap (λ (ys : List ℕ). ys ++ (v ∷ [])) kept) ∙ sym (cond-true _ _ _ below)
+  counted-whole : row.count ≡ length (held row).items
+  counted-whole = sym (ap length whole ∙ counted)
 
-  pub oldest-read : 0 < n → Done (get_or xs 0 0) ≡ oldest (take 32 (take n xs))
-  oldest-read p = front xs n p within ∙ ap oldest (sym whole)
-    where
-      front : (xs : List ℕ) (n : ℕ) → 0 < n → n ≤ length xs → Done (get_or xs 0 0) ≡ oldest (take n xs)
-      front [] n p q = absurd (omega arith)
-      front (x ∷ xs) zero p q = absurd (omega arith)
-      front (x ∷ xs) (suc n) p q = refl
+  below : row.count < 32 → ltb (length (held row).items) 32 ≡ true
+  below room = lt-ltb (length (held row).items) 32 (omega (arith, counted-whole))
 
-  pub newest-read : 0 < n → Done (get_or xs (n - 1) 0) ≡ newest (take 32 (take n xs))
-  newest-read p =
-      let l = counted in let w = whole in
-      let e : eqb n 0 ≡ false = ne_eqb n 0 (λ z. omega arith) in
-      let g : get_or (take n xs) (n - 1) 0 ≡ get_or xs (n - 1) 0 = get_or-take n xs (n - 1) 0 (omega arith) in
-      simp (w, l, e, g)
+  pub put_answers : row.count < 32 → Ok (row.count + 1) ≡ answer_to_put (held row)
+  put_answers room = ap (λ (k : ℕ). Ok (k + 1)) counted-whole ∙ sym (cond-true _ _ _ (below room))
 
-  pub newest_out : clip (take (n - 1) xs) ≡ clip (but_newest (take 32 (take n xs)))
-  newest_out =
-      let l = counted in let w = whole in
-      let p : take (n - 1) xs ≡ take (n - 1) (take n xs) = sym (take-take (n - 1) n xs (omega arith)) in
-      let q : take (n - 1) (take n xs) ≡ but_newest (take 32 (take n xs)) = simp (w, l) in
-      ap clip (p ∙ q)
+  pub put_leaves : (v : ℕ) → row.count < 32 → clip (take (row.count + 1) (set row.items row.count v)) ≡ with_put (held row) v
+  put_leaves v room =
+      let wide = row.wide in
+      ap clip (take_more_set row.items row.count v (omega arith) ∙ ap (λ (ys : List ℕ). ys ++ (v ∷ [])) (sym whole)) ∙ sym (cond-true _ _ _ (below room))
 
-  pub oldest_out : 0 < n → clip (take (n - 1) (drop 1 xs ++ take 1 xs)) ≡ clip (drop 1 (take 32 (take n xs)))
-  oldest_out p =
-      let a : n - 1 ≤ length (drop 1 xs) = simp length-drop (omega arith) in
-      let e : n ≡ 1 + (n - 1) = omega arith in
-      ap clip (take-append-le (n - 1) (drop 1 xs) (take 1 xs) a
-      ∙ sym (drop-take 1 (n - 1) xs)
-      ∙ ap (λ (k : ℕ). drop 1 (take k xs)) (sym e)
-      ∙ ap (drop 1) (sym whole))
+  -- an end whose place among the entries is i
+  module _ {place : Place} {first : First} {rest : Rest} (one : OneAt place first rest) (i : ℕ) (at : i ≡ place row.count) where
+    at_place : place (length (held row).items) ≡ i
+    at_place = ap place (sym counted-whole) ∙ sym at
 
-  pub pictured_made : (ys : List ℕ) → ys ≡ take (n - 0) xs → n ∷ (ys ++ drop ((n + 1) - 1) (replicate 39 0)) ≡ pictured (take 32 (take n xs))
+    pub looked : first (held row).items ≡ ok_or (slice_get kept i) Empty
+    looked =
+        one.entry (held row).items
+        ∙ ap (λ (j : ℕ). ok_or (slice_get (held row).items j) Empty) at_place
+        ∙ ap (λ (ys : List ℕ). ok_or (slice_get ys i) Empty) whole
+
+    pub none_out : (d : Denied) → first (held row).items ≡ Err d → held row ≡ clip (rest (held row).items)
+    none_out d e =
+        elim ((sound one).entry (held row).items) [
+          | inl none ↦ ap clip (sym (none.1 ∙ whole))
+          | inr some ↦ (let f = some.1 in cc)
+        ]
+
+    -- the array from i as far as the count, and past it
+    abbrev pub mid : List ℕ
+    mid = take (row.count - i) (drop i row.items)
+
+    abbrev past : List ℕ
+    past = drop (row.count - i) (drop i row.items)
+
+    removed : rest (held row).items ≡ remove kept i
+    removed =
+        one.others (held row).items
+        ∙ ap (λ (j : ℕ). remove (held row).items j) at_place
+        ∙ ap (λ (zs : List ℕ). remove zs i) whole
+
+    turned : i < row.count → take (row.count - 1) (take i row.items ++ ((drop 1 mid ++ take 1 mid) ++ past)) ≡ remove kept i
+    turned h =
+        let few = row.few in let wide = row.wide in
+        ap (take (row.count - 1)) (ap (λ zs. take i row.items ++ zs) (append_assoc (drop 1 mid) (take 1 mid) past) ∙ sym (append_assoc (take i row.items) (drop 1 mid) (take 1 mid ++ past)))
+        ∙ take_at (take i row.items ++ drop 1 mid) (take 1 mid ++ past) (row.count - 1) (simp (length-append, length-take, length-drop) (omega arith))
+        ∙ ap₂ ◌++◌ (sym (take-take i row.count row.items (omega arith))) (ap (drop 1) (between_is row.items i row.count) ∙ drop-drop 1 i kept ∙ ap (λ (k : ℕ). drop k kept) (add-one i))
+
+    pub one_out : i < row.count → (ys : List ℕ) → ys ≡ drop 1 mid ++ take 1 mid → clip (take (row.count - 1) (put_mid i (row.count - i) row.items ys)) ≡ clip (rest (held row).items)
+    one_out h ys e = ap clip (ap (λ zs. take (row.count - 1) (take i row.items ++ (zs ++ past))) e ∙ turned h ∙ sym removed)
+
+  pub pictured_made : (ys : List ℕ) → ys ≡ kept → row.count ∷ (ys ++ drop ((row.count + 1) - 1) (replicate 39 0)) ≡ pictured (held row).items
   pictured_made ys e =
       let l = counted in let w = whole in
-      let a : (n + 1) - 1 ≡ n = omega arith in
-      let b : n - 0 ≡ n = omega arith in
-      simp (e, a, b, w, l, drop-replicate)
-
-pub zeros_step : (xs : List ℕ) (i : ℕ) → i < length xs → get_or xs i 0 ≡ 0 → zeros (drop (i + 1) xs) ≡ zeros (drop i xs)
-zeros_step xs i h e =
-    let d : zeros (drop i xs) ≡ cond (eqb (get_or xs i 0) 0) (zeros (drop (i + 1) xs)) false = at_drop_more zeros xs i 0 h in
-    sym (d ∙ cond-true _ _ _ (eq-eqb _ 0 e))
-
-pub zeros_stop : (xs : List ℕ) (i : ℕ) → i < length xs → (get_or xs i 0 ≡ 0 → ⊥) → false ≡ zeros (drop i xs)
-zeros_stop xs i h e =
-    let d : zeros (drop i xs) ≡ cond (eqb (get_or xs i 0) 0) (zeros (drop (i + 1) xs)) false = at_drop_more zeros xs i 0 h in
-    sym (d ∙ cond-false _ _ _ (ne_eqb _ 0 e))
+      let a : (row.count + 1) - 1 ≡ row.count = omega arith in
+      simp (e, a, w, l, drop-replicate)
 
 -- 40 words whose count is at most 32
 module _ (ws : List ℕ) (long : length ws ≡ 40) (low : get_or ws 0 0 ≤ 32) where
-  by_zeros : (z : Bool) → z ≡ zeros (take (40 - (get_or ws 0 0 + 1)) (drop (get_or ws 0 0 + 1) ws)) → is_picture ws ≡ z
+  by_zeros : (z : Bool) → z ≡ zeros (between (get_or ws 0 0 + 1) 40 ws) → is_picture ws ≡ z
   by_zeros z e =
-      let a : eqb (length ws) 40 ≡ true = eq-eqb (length ws) 40 long in
-      let b : leb (get_or ws 0 0) 32 ≡ true = le-leb (get_or ws 0 0) 32 low in
-      let k : length (drop (get_or ws 0 0 + 1) ws) ≤ 40 - (get_or ws 0 0 + 1) = simp length-drop (omega arith) in
-      let d : take (40 - (get_or ws 0 0 + 1)) (drop (get_or ws 0 0 + 1) ws) ≡ drop (get_or ws 0 0 + 1) ws = take_all (40 - (get_or ws 0 0 + 1)) (drop (get_or ws 0 0 + 1) ws) k in
-      cond-true _ _ _ a ∙ cond-true _ _ _ b ∙ sym (e ∙ ap zeros d)
+      cond-true _ _ _ (eq-eqb (length ws) 40 long)
+      ∙ cond-true _ _ _ (le-leb (get_or ws 0 0) 32 low)
+      ∙ sym (e ∙ ap zeros (between_to_end ws (get_or ws 0 0 + 1) 40 (omega arith)))
 
-  pub no_picture : {X : Type 0} (x y : X) → false ≡ zeros (take (40 - (get_or ws 0 0 + 1)) (drop (get_or ws 0 0 + 1) ws)) → y ≡ cond (is_picture ws) x y
-  no_picture x y e = sym (cond-false _ _ _ (by_zeros false e))
+  pub no_picture : false ≡ zeros (between (get_or ws 0 0 + 1) 40 ws) → None ≡ read ws
+  no_picture e = sym (cond-false _ _ _ (by_zeros false e))
 
-  pub yes_picture : {X : Type 0} (x y : X) → true ≡ zeros (take (40 - (get_or ws 0 0 + 1)) (drop (get_or ws 0 0 + 1) ws)) → x ≡ cond (is_picture ws) x y
-  yes_picture x y e = sym (cond-true _ _ _ (by_zeros true e))
-
-  pub copied_is : (ys zs : List ℕ) → ys ≡ take ((get_or ws 0 0 + 1) - 1) (drop 1 ws) → take (get_or ws 0 0) (ys ++ zs) ≡ named ws
-  copied_is ys zs e =
-      let a : (get_or ws 0 0 + 1) - 1 ≡ get_or ws 0 0 = omega arith in
-      let l : length (take (get_or ws 0 0) (drop 1 ws)) ≡ get_or ws 0 0 = simp (length-take, length-drop) (omega arith) in
-      let f : ys ≡ take (get_or ws 0 0) (drop 1 ws) = e ∙ ap (λ (k : ℕ). take k (drop 1 ws)) a in
-      take_at ys zs (get_or ws 0 0) (ap length f ∙ l) ∙ f
-
-  pub wide_made : (ys : List ℕ) → ys ≡ take ((get_or ws 0 0 + 1) - 1) (drop 1 ws) → length (ys ++ drop (get_or ws 0 0 - 0) (replicate 32 0)) ≡ 32
-  wide_made ys e =
-      let l : length ys ≡ get_or ws 0 0 = ap length e ∙ simp (length-take, length-drop) (omega arith) in
-      simp (length-append, length-drop) (omega arith)
+  -- the entries that are named lie among the 32 words after the count
+  pub picture_read : true ≡ zeros (between (get_or ws 0 0 + 1) 40 ws) → (ys : List ℕ) → ys ≡ between 1 33 ws → Some (clip (take (get_or ws 0 0) ys)) ≡ read ws
+  picture_read e ys f =
+      ap (λ (xs : List ℕ). Some (clip xs)) (ap (take (get_or ws 0 0)) f ∙ take-take (get_or ws 0 0) 32 (drop 1 ws) low)
+      ∙ sym (cond-true _ _ _ (by_zeros true e))

@@ -1,7 +1,6 @@
 -- What a queue and a stack promise of every run of operations, told by what went in and what came out.
-use Rattle.std.specs.Prelude.{◌≡◌, ℕ, cond, List, [], ◌∷◌, ◌++◌, ◌==◌}
-use Rattle.objects.specs.declared.answer.Answer.{Answer}
-use Rattle.objects.specs.declared.answer.Answer.TheVariants.{Done, Empty, Full, Unknown}
+use Rattle.std.specs.Prelude.{◌≡◌, ℕ, cond, List, [], ◌∷◌, ◌++◌, Ok, Err, ◌==◌}
+use Rattle.objects.specs.Answers.{Answer}
 use Rattle.objects.specs.Model.{ObjectModel}
 use Rattle.objects.specs.Rows.{First, Rest, clip, oldest, newest, but_oldest, but_newest, row_model}
 
@@ -30,10 +29,8 @@ pub data Deed : Type 0 where
   neither : Deed
 
 abbrev pub deed_when : Operation → Answer → Deed
-deed_when o (Done value) = cond (o.op == 1) (puts o.arg) (cond (o.op == 2) (gives value) neither)
-deed_when o Empty = neither
-deed_when o Full = neither
-deed_when o Unknown = neither
+deed_when o (Ok value) = cond (o.op == 1) (puts o.arg) (cond (o.op == 2) (gives value) neither)
+deed_when o (Err denied) = neither
 
 abbrev pub deed_of : Event → Deed
 deed_of e = deed_when e.operation e.answer

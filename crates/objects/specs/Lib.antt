@@ -1,7 +1,9 @@
 pub mod Answers
+pub mod Ops
 pub mod Model
 pub mod Rows
 pub mod Held
+pub mod Places
 pub mod Laws
 pub mod Worked
 pub mod QueueLaw

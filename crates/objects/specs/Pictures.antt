@@ -22,11 +22,11 @@ zeros_are : (xs : List ℕ) → zeros xs ≡ true → xs ≡ replicate (length x
 zeros_are [] h = refl
 zeros_are (x ∷ xs) h =
     elim (cases_Bool (x == 0)) [
-      | inl e ↦ (let t : zeros xs ≡ true = sym (cond-true _ _ _ e) ∙ h in
+      | inl e ↦ (let t : zeros xs ≡ true = rw e at h in
           let a : x ≡ 0 = eqb-true x 0 e in
           let b : xs ≡ replicate (length xs) 0 = zeros_are xs t in
           cc)
-      | inr e ↦ (let f : false ≡ true = sym (cond-false _ _ _ e) ∙ h in absurd (clash f))
+      | inr e ↦ (let f : false ≡ true = rw e at h in absurd (clash f))
     ]
 
 module _ (s : Entries) where
@@ -80,5 +80,5 @@ only_pictures ws s h =
           let b : clip (named ws) ≡ s = cc in
           p.0 ∙ ap pictured (sym (take_all 32 (named ws) p.1) ∙ ap (λ (t : Entries). t.items) b))
       | inr e ↦ (let a : None ≡ Some s = sym (cond-false _ _ _ e) ∙ h in
-          let z : ◌≡◌ {A = ℕ} 0 1 = cc in absurd (omega arith))
+          absurd (grind arith))
     ]

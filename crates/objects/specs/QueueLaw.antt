@@ -1,21 +1,14 @@
 -- A queue gives out what was put in, in that order.
-use Rattle.std.specs.Prelude.{◌≡◌, ℕ, ◌⊎◌, List, [], ◌∷◌, ◌++◌, refl}
-use Rattle.std.proofs.Common.{sym, ap, ◌∙◌, append_assoc, inl, inr, arith, length-drop}
+use Rattle.std.specs.Prelude.{◌≡◌, ℕ, List, [], ◌∷◌, ◌++◌, Ok, refl}
+use Rattle.std.proofs.Common.{sym, ap, ◌∙◌, append_assoc}
 use Rattle.std.proofs.lemmas.List.{append-nil}
-use Rattle.objects.specs.declared.answer.Answer.TheVariants.{Done, Empty}
 use Rattle.objects.specs.Rows.{Entries, oldest, but_oldest, queue_model}
+use Rattle.objects.specs.Places.{oldest_at}
 use Rattle.objects.specs.Laws.{Operation, Event, Deed, word_in, word_out, put_in, given_out, deed_of, events, after_run, QueueLaw}
-use Rattle.objects.specs.Deeds.{Makes, put, given, same, Sound, made}
+use Rattle.objects.specs.Deeds.{Makes, put, given, same, made}
 
-pub sound : Sound oldest but_oldest
-sound = record { entry = entry; fewer = λ xs. simp length-drop (omega arith) }
-  where
-    entry : (xs : List ℕ) → ((oldest xs ≡ Empty) × (but_oldest xs ≡ xs)) ⊎ ((x : ℕ) × (oldest xs ≡ Done x))
-    entry [] = inl (refl, refl)
-    entry (x ∷ xs) = inr (x, refl)
-
-oldest-ahead : (xs : List ℕ) (x : ℕ) → oldest xs ≡ Done x → xs ≡ x ∷ but_oldest xs
-oldest-ahead [] x h = let z : ◌≡◌ {A = ℕ} 0 1 = cc in absurd (omega arith)
+oldest-ahead : (xs : List ℕ) (x : ℕ) → oldest xs ≡ Ok x → xs ≡ x ∷ but_oldest xs
+oldest-ahead [] x h = cc
 oldest-ahead (y ∷ ys) x h = let e : y ≡ x = cc in ap (λ (w : ℕ). w ∷ ys) e
 
 -- one event keeps what is there and comes in equal to what goes out and is there
@@ -30,7 +23,7 @@ in_order (o ∷ os) s =
     let e : Event = record { operation = o; answer = queue_model.answer s o.op o.arg } in
     let t : Entries = queue_model.next s o.op o.arg in
     let d : Deed = deed_of e in
-    let step : s.items ++ word_in d ≡ word_out d ++ t.items = one (made oldest but_oldest sound s o) in
+    let step : s.items ++ word_in d ≡ word_out d ++ t.items = one (made oldest_at s o) in
     let more = in_order os t in
     let ins = put_in (events queue_model t os) in
     sym (append_assoc s.items (word_in d) ins)

@@ -1,8 +1,9 @@
 -- Objects that hold at most 32 words, the oldest first; they differ in the entry that is taken out.
-use Rattle.std.specs.Prelude.{ℕ, ◌+◌, ◌-◌, ◌≤◌, Bool, true, false, cond, List, [], ◌∷◌, ◌++◌, length, take, drop, replicate, Some, None, Option, ◌==◌, nat_le, nat_lt, slice_index}
+use Rattle.std.specs.Prelude.{ℕ, ◌+◌, ◌-◌, ◌≤◌, Bool, false, cond, List, [], ◌∷◌, ◌++◌, length, take, drop, replicate, Some, None, Option, Ok, Err, ◌==◌, nat_le, nat_lt, slice_index}
+use Rattle.std.specs.List.{list_all}
 use Rattle.std.proofs.Common.{arith, length-take}
-use Rattle.objects.specs.declared.answer.Answer.{Answer}
-use Rattle.objects.specs.declared.answer.Answer.TheVariants.{Done, Empty, Full, Unknown}
+use Rattle.objects.specs.declared.answer.Denied.TheVariants.{Empty, Full, Unknown}
+use Rattle.objects.specs.Answers.{Answer}
 use Rattle.objects.specs.Model.{ObjectModel}
 
 pub record Entries : Type 0 where
@@ -24,28 +25,28 @@ abbrev pub Rest : Type 0
 Rest = List ℕ → List ℕ
 
 abbrev pub oldest : First
-oldest [] = Empty
-oldest (x ∷ xs) = Done x
+oldest [] = Err Empty
+oldest (x ∷ xs) = Ok x
 
 abbrev pub but_oldest : Rest
 but_oldest xs = drop 1 xs
 
 abbrev pub newest : First
-newest xs = cond (length xs == 0) Empty (Done (slice_index xs (length xs - 1)))
+newest xs = cond (length xs == 0) (Err Empty) (Ok (slice_index xs (length xs - 1)))
 
 abbrev pub but_newest : Rest
 but_newest xs = take (length xs - 1) xs
 
 -- what operation 1 answers, and what is held then
 abbrev pub answer_to_put : Entries → Answer
-answer_to_put s = cond (nat_lt (length s.items) 32) (Done (length s.items + 1)) Full
+answer_to_put s = cond (nat_lt (length s.items) 32) (Ok (length s.items + 1)) (Err Full)
 
 abbrev pub with_put : Entries → ℕ → Entries
 with_put s arg = cond (nat_lt (length s.items) 32) (clip (s.items ++ (arg ∷ []))) s
 
 -- operation 1 puts in, 2 takes out, 3 looks
 abbrev pub answer_of : First → Entries → ℕ → Answer
-answer_of first s op = cond (op == 1) (answer_to_put s) (cond (op == 2) (first s.items) (cond (op == 3) (first s.items) Unknown))
+answer_of first s op = cond (op == 1) (answer_to_put s) (cond (op == 2) (first s.items) (cond (op == 3) (first s.items) (Err Unknown)))
 
 abbrev pub held_after : Rest → Entries → ℕ → ℕ → Entries
 held_after rest s op arg = cond (op == 1) (with_put s arg) (cond (op == 2) (clip (rest s.items)) s)
@@ -55,8 +56,7 @@ abbrev pub pictured : List ℕ → List ℕ
 pictured xs = length xs ∷ (xs ++ replicate (39 - length xs) 0)
 
 abbrev pub zeros : List ℕ → Bool
-zeros [] = true
-zeros (x ∷ xs) = cond (x == 0) (zeros xs) false
+zeros xs = list_all (λ x. x == 0) xs
 
 -- the entries that the count of a picture announces
 abbrev pub named : List ℕ → List ℕ

@@ -1,26 +1,19 @@
 -- A stack gives out the latest word that is still in.
-use Rattle.std.specs.Prelude.{◌≡◌, ℕ, ◌-◌, false, ◌⊎◌, List, [], ◌∷◌, ◌++◌, length, nat_eq, slice_index, slice_index_or, refl}
-use Rattle.std.proofs.Common.{append_assoc, inl, inr, arith, length-take}
+use Rattle.std.specs.Prelude.{◌≡◌, ℕ, ◌-◌, false, List, [], ◌∷◌, ◌++◌, length, Ok, nat_eq, slice_index_or, refl}
+use Rattle.std.proofs.Common.{append_assoc, arith}
 use Rattle.std.proofs.lemmas.List.{append-nil, length_push, get_or_push, take_at}
-use Rattle.std.proofs.lemmas.Bool.{cond-false, ne_eqb}
-use Rattle.objects.specs.declared.answer.Answer.TheVariants.{Done, Empty}
+use Rattle.std.proofs.lemmas.Bool.{ne_eqb}
 use Rattle.objects.specs.Rows.{Entries, newest, but_newest, stack_model}
+use Rattle.objects.specs.Places.{newest_at}
 use Rattle.objects.specs.Laws.{Operation, Event, Deed, gives, deed_of, events, after_run, Balanced, nothing, idle, one_after_another, put_and_given, Leaves, balanced, then_put, StackLaw}
-use Rattle.objects.specs.Deeds.{Makes, put, given, same, Sound, made}
-
-pub sound : Sound newest but_newest
-sound = record { entry = entry; fewer = λ xs. simp length-take (omega arith) }
-  where
-    entry : (xs : List ℕ) → ((newest xs ≡ Empty) × (but_newest xs ≡ xs)) ⊎ ((x : ℕ) × (newest xs ≡ Done x))
-    entry [] = inl (refl, refl)
-    entry (x ∷ xs) = inr (slice_index (x ∷ xs) (length (x ∷ xs) - 1), cond-false _ _ _ (ne_eqb (length (x ∷ xs)) 0 (λ z. omega arith)))
+use Rattle.objects.specs.Deeds.{Makes, put, given, same, made}
 
 -- the newest of entries is the last
 module _ (xs : List ℕ) (x : ℕ) where
   before_last : length (xs ++ (x ∷ [])) - 1 ≡ length xs
   before_last = simp length_push (omega arith)
 
-  newest_last : newest (xs ++ (x ∷ [])) ≡ Done x
+  newest_last : newest (xs ++ (x ∷ [])) ≡ Ok x
   newest_last =
       let b = before_last in
       let some : nat_eq (length (xs ++ (x ∷ []))) 0 ≡ false = ne_eqb (length (xs ++ (x ∷ []))) 0 (λ z. omega (arith, length_push xs x)) in
@@ -36,8 +29,8 @@ still_left (balanced b) more = balanced (one_after_another b more)
 still_left {bs = bs} (then_put {es = es} {fs = fs} x p l is-put b) more =
     rw (append_assoc es (p ∷ fs) bs) (then_put x p l is-put (one_after_another b more))
 
-one_given : {es : List Event} {xs : List ℕ} (x : ℕ) (g : Event) → Leaves es xs → newest xs ≡ Done x → deed_of g ≡ gives x → Leaves (es ++ (g ∷ [])) (but_newest xs)
-one_given x g (balanced b) h is-given = let z : ◌≡◌ {A = ℕ} 0 1 = cc in absurd (omega arith)
+one_given : {es : List Event} {xs : List ℕ} (x : ℕ) (g : Event) → Leaves es xs → newest xs ≡ Ok x → deed_of g ≡ gives x → Leaves (es ++ (g ∷ [])) (but_newest xs)
+one_given x g (balanced b) h is-given = absurd (grind arith)
 one_given x g (then_put {es = es} {fs = fs} {xs = xs} y p l is-put b) h is-given =
     let n = newest_last xs y in
     let e : y ≡ x = cc in
@@ -54,7 +47,7 @@ latest [] s past l = rw append-nil l
 latest (o ∷ os) s past l =
     let e : Event = record { operation = o; answer = stack_model.answer s o.op o.arg } in
     let t : Entries = stack_model.next s o.op o.arg in
-    let more = latest os t (past ++ (e ∷ [])) (one e refl l (made newest but_newest sound s o)) in
+    let more = latest os t (past ++ (e ∷ [])) (one e refl l (made newest_at s o)) in
     rw (append_assoc past (e ∷ []) (events stack_model t os)) at more
 
 pub stack_law : StackLaw

@@ -1,7 +1,6 @@
 -- Worked cases of the rules, by the numbers that an answer shows.
 use Rattle.std.specs.Prelude.{◌≡◌, ℕ, [], ◌∷◌, replicate, Some, None}
-use Rattle.objects.specs.declared.answer.Answer.{Answer}
-use Rattle.objects.specs.Answers.{answer_code, answer_value}
+use Rattle.objects.specs.Answers.{Answer, answer_code, answer_value}
 use Rattle.objects.specs.Rows.{Entries, clip, queue_model, stack_model}
 
 -- an answer is the code c with the value v

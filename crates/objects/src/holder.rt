@@ -6,12 +6,14 @@ ghost use Rattle.objects.specs.Pictures.{reads-back, only_pictures, pictured-lon
 use crate::answer::Answer;
 use crate::ends::{End, Newest, Oldest};
 use crate::object::Object;
+use crate::op::Op;
 use crate::row::Row;
+use std::marker::PhantomData;
 
-#[derive(Clone, Copy)]
+#[derive(Clone, Copy, Debug)]
 pub struct Holder<E: End> {
     row: Row,
-    end: E,
+    end: PhantomData<E>,
 }
 
 pub type Queue = Holder<Oldest>;
@@ -19,7 +21,7 @@ pub type Queue = Holder<Oldest>;
 pub type Stack = Holder<Newest>;
 
 impl<E: End> Object for Holder<E> {
-    ghost model = { row_model E.End.kind E.End.first E.End.rest };
+    ghost model = { row_model E.End.KIND E.End.first E.End.rest };
 
     ghost state = { λ h. held h.row };
 
@@ -30,33 +32,32 @@ impl<E: End> Object for Holder<E> {
     ghost long = { pictured-long };
 
     fn kind() -> u64 {
-        E::kind_number()
+        E::KIND
     }
 
     fn fresh() -> Holder<E> {
         Holder {
             row: Row::new(),
-            end: E::new(),
+            end: PhantomData,
         }
     }
 
     fn apply(&mut self, op: u64, arg: u64) -> Answer {
-        match op {
-            1 => self.row.put(arg),
-            2 => E::take_out(&mut self.row),
-            3 => E::look(&self.row),
-            _ => Answer::Unknown,
+        match Op::try_from(op)? {
+            Op::Put => self.row.put(arg),
+            Op::Take => self.row.take::<E>(),
+            Op::Look => self.row.look::<E>(),
         }
     }
 
     fn picture(&self) -> [u64; 40] {
-        self.row.to_words()
+        <[u64; 40]>::from(&self.row)
     }
 
     fn from_picture(words: &[u64; 40]) -> Option<Holder<E>> {
-        match Row::from_words(words) {
-            Some(row) => Some(Holder { row, end: E::new() }),
-            None => None,
-        }
+        Some(Holder {
+            row: Row::try_from(words).ok()?,
+            end: PhantomData,
+        })
     }
 }

@@ -10,12 +10,14 @@ pub trait Object: Copy {
 
     ghost state: { Self → model.State };
 
+    // a number, and no enum: kinds are open, and a memory's first line keeps this word
     fn kind() -> u64
         ensures { result ≡ model.kind };
 
     fn fresh() -> Self
         ensures { state result ≡ model.fresh };
 
+    // any word may be asked for as an operation
     fn apply(&mut self, op: u64, arg: u64) -> Answer
         ensures answer { result ≡ model.answer (state self.old) op arg }
         ensures after { state self.new ≡ model.next (state self.old) op arg };

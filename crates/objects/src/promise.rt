@@ -4,29 +4,25 @@ ghost use Rattle.objects.specs.Worked.{FullAndEmpty, Ends, Pictures};
 
 use crate::ends::{End, Newest, Oldest};
 
-fn promise_of<E: End>() -> u8
-    ensures { Keeps E.End.kind E.End.first E.End.rest E.End.promise }
-{
-    0
-}
+fn promise_of<E: End>()
+    ensures { Keeps E.End.KIND E.End.first E.End.rest E.End.promise }
+{}
 
 // A queue gives out what was put in, in that order.
-pub fn queue_gives_in_order() -> u8
+pub fn queue_gives_in_order()
     ensures { QueueLaw }
 {
     promise_of::<Oldest>()
 }
 
 // A stack gives out the latest word that is still in.
-pub fn stack_gives_latest() -> u8
+pub fn stack_gives_latest()
     ensures { StackLaw }
 {
     promise_of::<Newest>()
 }
 
 // The worked cases come out as they are written down.
-pub fn examples_hold() -> u8
+pub fn examples_hold()
     ensures { FullAndEmpty × Ends × Pictures }
-{
-    0
-}
+{}

@@ -3,7 +3,9 @@ mod ops;
 
 ghost use Rattle.std.specs.Prelude.{◌≡◌, ◌≤◌, length};
 
-#[derive(Clone, Copy)]
+// An array with a count, and no Vec: an object is copied, and there is no heap. It has no Model as its entries, since a copy
+// needs the words past the count, which they do not give back.
+#[derive(Clone, Copy, Debug)]
 pub struct Row {
     items: [u64; 32],
     count: usize,

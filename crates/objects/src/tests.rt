@@ -1,18 +1,18 @@
 // Examples of both ends, of every answer, and of words that are a picture or none.
-use crate::answer::Answer;
+use crate::answer::{Answer, code, value};
 use crate::holder::{Queue, Stack};
 use crate::object::Object;
 use std::process::Abort;
 
-fn shows(answer: Answer, code: u64, value: u64) -> bool {
-    answer.code() == code && answer.value() == value
+fn shows(answer: Answer, number: u64, word: u64) -> bool {
+    code(answer) == number && value(answer) == word
 }
 
 // Each row is an operation, its argument, and the code and the value that a fresh object comes to answer.
 fn follows<O: Object>(rt: &impl Abort, rows: &[(u64, u64, u64, u64)]) {
     let mut object = O::fresh();
-    for &(op, arg, code, value) in rows {
-        assert!(rt; shows(object.apply(op, arg), code, value));
+    for &(op, arg, number, word) in rows {
+        assert!(rt; shows(object.apply(op, arg), number, word));
     }
 }
 

@@ -6,6 +6,7 @@ use super::{Layer, Refusal};
 use memory::Refusal as MemoryRefusal;
 
 impl Refusal {
+    // By a table, since a variant that carries a value has no number of its own.
     pub fn number(self) -> u64
         ensures { result ≡ refusal_number self }
     {

@@ -1,10 +1,12 @@
 // What can be done with a row: begin empty, put in, look, take out, and turn into a picture and back.
-ghost use Rattle.std.specs.Prelude.{◌≡◌, [], length};
+ghost use Rattle.std.specs.Prelude.{◌≡◌, ◌<◌, [], IfOk};
+ghost use Rattle.std.specs.Result.{result_ok};
 ghost use Rattle.std.specs.Option.{option_map};
-ghost use Rattle.objects.specs.Rows.{clip, answer_to_put, with_put, oldest, newest, but_oldest, but_newest, pictured, read, zeros};
+ghost use Rattle.objects.specs.Rows.{clip, answer_to_put, with_put, pictured, read, zeros};
 ghost use Rattle.objects.specs.Held.{held};
 
-use crate::answer::Answer;
+use crate::answer::{Answer, Denied};
+use crate::ends::End;
 use crate::row::Row;
 
 impl Row {
@@ -17,100 +19,77 @@ impl Row {
         }
     }
 
-    fn len(&self) -> usize
-        ensures value { result ≡ length (held self.now).items }
-        ensures same { result ≡ self.now.count }
-    {
-        self.count
-    }
-
     pub(crate) fn put(&mut self, arg: u64) -> Answer
         ensures answer { result ≡ answer_to_put (held self.old) }
         ensures after { held self.new ≡ with_put (held self.old) arg }
     {
-        let count = self.len();
-        if count >= 32 {
-            return Answer::Full;
+        if self.count >= 32 {
+            return Err(Denied::Full);
         }
-        self.items[count] = arg;
-        self.count = count + 1;
-        Answer::Done(count as u64 + 1)
+        self.items[self.count] = arg;
+        self.count += 1;
+        Ok(self.count as u64)
     }
 
-    pub(crate) fn oldest(&self) -> Answer
-        ensures { result ≡ oldest (held self.now).items }
+    pub(crate) fn look<E: End>(&self) -> Answer
+        ensures answer { result ≡ E.first (held self.now).items }
+        ensures within { IfOk result (λ _. E.place self.now.count < self.now.count) }
     {
-        if self.count == 0 {
-            return Answer::Empty;
-        }
-        Answer::Done(self.items[0])
+        let entries = &self.items[..self.count];
+        entries
+            .get(E::index(self.count))
+            .copied()
+            .ok_or(Denied::Empty)
     }
 
-    pub(crate) fn take_oldest(&mut self) -> Answer
-        ensures answer { result ≡ oldest (held self.old).items }
-        ensures after { held self.new ≡ clip (but_oldest (held self.old).items) }
+    pub(crate) fn take<E: End>(&mut self) -> Answer
+        ensures answer { result ≡ E.first (held self.old).items }
+        ensures after { held self.new ≡ clip (E.rest (held self.old).items) }
     {
-        let answer = self.oldest();
-        if self.count > 0 {
-            self.items.rotate_left(1);
-            self.count -= 1;
-        }
-        answer
+        let entry = self.look::<E>()?;
+        self.items[E::index(self.count)..self.count].rotate_left(1);
+        self.count -= 1;
+        Ok(entry)
     }
+}
 
-    pub(crate) fn newest(&self) -> Answer
-        ensures { result ≡ newest (held self.now).items }
-    {
-        if self.count == 0 {
-            return Answer::Empty;
-        }
-        Answer::Done(self.items[self.count - 1])
-    }
+impl From<&Row> for [u64; 40] {
+    ghost from_gives = { λ row words. words ≡ pictured (held row.now).items };
 
-    pub(crate) fn take_newest(&mut self) -> Answer
-        ensures answer { result ≡ newest (held self.old).items }
-        ensures after { held self.new ≡ clip (but_newest (held self.old).items) }
-    {
-        let answer = self.newest();
-        if self.count > 0 {
-            self.count -= 1;
-        }
-        answer
-    }
-
-    pub(crate) fn to_words(&self) -> [u64; 40]
-        ensures { result ≡ pictured (held self.now).items }
-    {
+    fn from(row: &Row) -> [u64; 40] {
         let mut words = [0; 40];
-        words[0] = self.count as u64;
-        words[1..self.count + 1].copy_from_slice(&self.items[0..self.count]);
+        words[0] = row.count as u64;
+        words[1..=row.count].copy_from_slice(&row.items[..row.count]);
         words
     }
+}
 
-    pub(crate) fn from_words(words: &[u64; 40]) -> Option<Row>
-        ensures { option_map held result ≡ read words.now }
-    {
+// Words that are no picture.
+#[derive(Clone, Copy, Debug, PartialEq, Eq)]
+pub struct NoPicture;
+
+impl TryFrom<&[u64; 40]> for Row {
+    type Error = NoPicture;
+
+    ghost try_from_gives = { λ words row. option_map held (result_ok row) ≡ read words.now };
+
+    fn try_from(words: &[u64; 40]) -> Result<Row, NoPicture> {
         let count = words[0];
         if count > 32 {
-            return None;
+            return Err(NoPicture);
         }
-        let n = count as usize;
-        if !all_zero(&words[n + 1..40]) {
-            return None;
+        let count = count as usize;
+        if !all_zero(&words[count + 1..]) {
+            return Err(NoPicture);
         }
         let mut items = [0; 32];
-        items[0..n].copy_from_slice(&words[1..n + 1]);
-        Some(Row { items, count: n })
+        items.copy_from_slice(&words[1..33]);
+        Ok(Row { items, count })
     }
 }
 
 fn all_zero(words: &[u64]) -> bool
     ensures { result ≡ zeros words.now }
 {
-    for word in words {
-        if *word != 0 {
-            return false;
-        }
-    }
-    true
+    words.iter().all(|&word| word == 0)
 }
