@@ -5,7 +5,7 @@ use Rattle.memory.specs.Held.{opened}
 use Rattle.memory.specs.Kinds.{lazy, prompt}
 use Rattle.objects.specs.Model.{ObjectModel}
 use Rattle.objects.specs.Rows.{queue_model, stack_model}
-use Rattle.store.specs.Machine.{begun}
+use Rattle.machine.specs.Calls.{begun}
 use Rattle.script.specs.declared.call.Call.{Call}
 use Rattle.script.specs.declared.fault.Fault.{Fault}
 use Rattle.script.specs.declared.setup.Setup.{Setup}

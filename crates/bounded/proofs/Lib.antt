@@ -1,1 +1,1 @@
-mod Grows
+pub mod Lents

@@ -7,9 +7,15 @@ mod ops;
 #[cfg(test)]
 mod tests;
 
+// A buffer with a length beside it, since the project has no heap: the caller lends the memory.
+// It has no Model, since its caller would then not learn what the memory holds when the list is let go.
 #[derive(Drop)]
 pub struct Bounded<'a, T> {
     items: &'a mut [T],
     len: usize,
     ghost within: { len ≤ length items.now },
 }
+
+// The answer where the memory has no room for what is to be added.
+#[derive(Clone, Copy, Debug, PartialEq, Eq)]
+pub struct Full;

@@ -1,16 +1,14 @@
 // What can be asked of a bounded list, and how it grows.
-ghost use Rattle.std.specs.Prelude.{◌≡◌, ◌+◌, ◌≤◌, [], ◌∷◌, ◌++◌, length, drop, if◌then◌else◌, nat_le, nat_lt};
-ghost use Rattle.bounded.specs.Entries.{entries, room, spare, lender};
+ghost use Rattle.std.specs.Prelude.{◌≡◌, ◌≤◌, [], ◌∷◌, length, nat_lt};
+ghost use Rattle.bounded.specs.Entries.{entries, room};
+ghost use Rattle.bounded.specs.Lent.{held, empty_over, added, answered};
 
-use super::Bounded;
+use super::{Bounded, Full};
 
 impl<'a, T> Bounded<'a, T> {
     // No entries yet.
     pub fn new(items: &'a mut [T]) -> Bounded<'a, T>
-        ensures entries { entries result ≡ [] }
-        ensures room { room result ≡ length items.old }
-        ensures spare { spare result ≡ items.old }
-        ensures lender { lender result ≡ items.entry.ghost_name }
+        ensures { held result ≡ empty_over items.old items.entry.ghost_name }
     {
         Bounded { items, len: 0 }
     }
@@ -38,38 +36,30 @@ impl<'a, T> Bounded<'a, T> {
 }
 
 impl<T: Copy> Bounded<'_, T> {
-    // One entry more, or false where the memory is full.
-    pub fn push(&mut self, x: T) -> bool
-        ensures test { result ≡ nat_lt (length (entries self.old)) (room self.old) }
-        ensures entries { entries self.new ≡ (if result then entries self.old ++ x ∷ [] else entries self.old) }
-        ensures len { length (entries self.new) ≡ (if result then length (entries self.old) + 1 else length (entries self.old)) }
-        ensures room { room self.new ≡ room self.old }
-        ensures spare { spare self.new ≡ (if result then drop 1 (spare self.old) else spare self.old) }
-        ensures lender { lender self.new ≡ lender self.old }
+    // One entry more, where the memory has room for it.
+    pub fn push(&mut self, x: T) -> Result<(), Full>
+        ensures reply { result ≡ answered (held self.old) (x ∷ []) }
+        ensures after { held self.new ≡ added (held self.old) (x ∷ []) }
     {
         if self.len >= self.items.len() {
-            return false;
+            return Err(Full);
         }
         self.items[self.len] = x;
         self.len += 1;
-        true
+        Ok(())
     }
 
-    // All of `more` at the end, or false where the memory has no room for it.
-    pub fn extend(&mut self, more: &[T]) -> bool
-        ensures test { result ≡ nat_le (length (entries self.old) + length more.now) (room self.old) }
-        ensures entries { entries self.new ≡ (if result then entries self.old ++ more.now else entries self.old) }
-        ensures len { length (entries self.new) ≡ (if result then length (entries self.old) + length more.now else length (entries self.old)) }
-        ensures room { room self.new ≡ room self.old }
-        ensures spare { spare self.new ≡ (if result then drop (length more.now) (spare self.old) else spare self.old) }
-        ensures lender { lender self.new ≡ lender self.old }
+    // All of `more` at the end, where the memory has room for it.
+    pub fn extend(&mut self, more: &[T]) -> Result<(), Full>
+        ensures reply { result ≡ answered (held self.old) more.now }
+        ensures after { held self.new ≡ added (held self.old) more.now }
     {
         if more.len() > self.items.len() - self.len {
-            return false;
+            return Err(Full);
         }
-        for x in more {
-            let _ = self.push(*x);
-        }
-        true
+        let end = self.len + more.len();
+        self.items[self.len..end].copy_from_slice(more);
+        self.len = end;
+        Ok(())
     }
 }

@@ -1,9 +1,9 @@
 -- The text of a listing, and of a fault.
 use Rattle.std.specs.Prelude.{ℕ, List, [], ◌∷◌, ◌++◌, codes, decimal}
-use Rattle.store.specs.declared.Layer.{Layer}
-use Rattle.store.specs.declared.Layer.TheVariants.{Store, Module}
-use Rattle.listing.specs.declared.outcome.Plain.{Plain}
-use Rattle.listing.specs.declared.outcome.Plain.TheVariants.{Format, Start, Arrive, Cut}
+use Rattle.machine.specs.declared.refusal.Layer.{Layer}
+use Rattle.machine.specs.declared.refusal.Layer.TheVariants.{Store, Module}
+use Rattle.script.specs.declared.call.Verb.{Verb}
+use Rattle.script.specs.Calls.{verb_name}
 use Rattle.listing.specs.declared.outcome.Refused.{Refused as Refusal}
 use Rattle.listing.specs.declared.outcome.Outcome.{Outcome}
 use Rattle.listing.specs.declared.outcome.Outcome.TheVariants.{Done, Refused}
@@ -12,11 +12,9 @@ abbrev pub layer_text : Layer → List ℕ
 layer_text Store = codes "store"
 layer_text Module = codes "module"
 
-abbrev pub plain_text : Plain → List ℕ
-plain_text Format = codes "format ok"
-plain_text Start = codes "start ok"
-plain_text Arrive = codes "arrive ok"
-plain_text Cut = codes "cut ok"
+-- a call that was done, by its verb
+abbrev pub plain_text : Verb → List ℕ
+plain_text v = verb_name v ++ codes " ok"
 
 abbrev pub refused_text : Refusal → List ℕ
 refused_text r = codes "refused " ++ (decimal r.number ++ (codes " " ++ layer_text r.layer))

@@ -7,5 +7,5 @@ mod output;
 mod tests;
 mod text;
 
-pub use outcome::{Outcome, Plain, Refused};
-pub use output::{write_fault, write_listing};
+pub use outcome::{Outcome, Refused};
+pub use output::{NoRoom, write_fault, write_listing};

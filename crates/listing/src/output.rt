@@ -1,64 +1,53 @@
 // A listing or a fault at the start of the caller's buffer.
-ghost use Rattle.std.specs.Prelude.{◌≡◌, length, if◌then◌else◌, Some, None, nat_le};
+ghost use Rattle.std.specs.Prelude.{◌≡◌};
 ghost use Rattle.listing.specs.Texts.{listing_text, fault_text};
-ghost use Rattle.listing.specs.Buffers.{written, filled};
+ghost use Rattle.listing.specs.Buffers.{sized, Written};
 
 use crate::outcome::Outcome;
-use crate::text::{add_line, line_len, put_fault};
+use crate::text::{fault_line, line_of};
 use bounded::Bounded;
 
 // The answer where the text does not fit.
-const NO_ROOM: usize = 1_000_036;
+#[derive(Clone, Copy, Debug, PartialEq, Eq)]
+pub struct NoRoom;
 
-// How long the listing is, where that is at most `most`.
-fn listing_len(outcomes: &[Outcome], most: usize) -> Option<usize>
-    ensures { result ≡ (if nat_le (length (listing_text outcomes.now)) most then Some (length (listing_text outcomes.now)) else None) }
+// How long the listing is, where that is at most `most`. A fold is no plainer: the sum stops at the line that passes it.
+fn listing_len(outcomes: &[Outcome], most: usize) -> Result<usize, NoRoom>
+    ensures { result ≡ sized (listing_text outcomes.now) most }
 {
     let mut total = 0;
     for o in outcomes {
-        let n = line_len(*o);
+        let n = line_of(*o).len();
         if n > most - total {
-            return None;
+            return Err(NoRoom);
         }
         total += n;
     }
-    Some(total)
+    Ok(total)
 }
 
-// The listing at the start of `out`, or 1,000,036 with `out` untouched where it does not fit.
-pub fn write_listing(outcomes: &[Outcome], out: &mut [u8]) -> usize
-    ensures value { result ≡ written (listing_text outcomes.now) out.old }
-    ensures out { out.new ≡ filled (listing_text outcomes.now) out.old }
+// The listing at the start of `out`, which stays as it was where that does not fit.
+pub fn write_listing(outcomes: &[Outcome], out: &mut [u8]) -> Result<usize, NoRoom>
+    ensures { Written (listing_text outcomes.now) out.old out.new result }
 {
-    let Some(n) = listing_len(outcomes, out.len()) else {
-        return NO_ROOM;
-    };
+    let n = listing_len(outcomes, out.len())?;
     let mut text = Bounded::new(out);
     for o in outcomes {
-        let _ = add_line(&mut text, *o);
+        text.extend(line_of(*o).as_bytes()).unwrap();
     }
-    n
+    Ok(n)
 }
 
-fn copy_text(text: &[u8], out: &mut [u8]) -> usize
-    ensures value { result ≡ written text.now out.old }
-    ensures out { out.new ≡ filled text.now out.old }
+// The line of a fault at the start of `out`, which stays as it was where that does not fit. The code is a number, since
+// the project shows any code, and an enum would ask more of callers.
+pub fn write_fault(code: u64, line: u64, byte: u64, out: &mut [u8]) -> Result<usize, NoRoom>
+    ensures { Written (fault_text code line byte) out.old out.new result }
 {
+    let text = fault_line(code, line, byte);
     let n = text.len();
     if n > out.len() {
-        return NO_ROOM;
+        return Err(NoRoom);
     }
-    out[0..n].copy_from_slice(text);
-    n
-}
-
-// The line of a fault at the start of `out`, or 1,000,036 with `out` untouched where it does not fit.
-pub fn write_fault(code: u64, line: u64, byte: u64, out: &mut [u8]) -> usize
-    ensures value { result ≡ written (fault_text code line byte) out.old }
-    ensures out { out.new ≡ filled (fault_text code line byte) out.old }
-{
-    let mut memory = [0u8; 79];
-    let mut text = Bounded::new(&mut memory);
-    put_fault(&mut text, code, line, byte);
-    copy_text(text.as_slice(), out)
+    out[..n].copy_from_slice(text.as_bytes());
+    Ok(n)
 }

@@ -1,14 +1,15 @@
 // Listings and faults in buffers that fit them, or not.
-use crate::{Outcome, Plain, Refused, write_fault, write_listing};
-use store::Layer;
+use crate::{NoRoom, Outcome, Refused, write_fault, write_listing};
+use machine::Layer;
+use script::Verb;
 
 #[test]
 fn writes_each_line(rt: HostRuntime) {
     let outcomes = [
-        Outcome::Done(Plain::Format),
-        Outcome::Done(Plain::Start),
-        Outcome::Done(Plain::Arrive),
-        Outcome::Done(Plain::Cut),
+        Outcome::Done(Verb::Format),
+        Outcome::Done(Verb::Start),
+        Outcome::Done(Verb::Arrive),
+        Outcome::Done(Verb::Cut),
         Outcome::Refused(Refused {
             number: 10,
             layer: Layer::Store,
@@ -19,9 +20,9 @@ fn writes_each_line(rt: HostRuntime) {
         }),
     ];
     let mut out = [b'.'; 71];
-    assert_eq!(rt; write_listing(&outcomes, &mut out[0..69]), 1_000_036);
+    assert_eq!(rt; write_listing(&outcomes, &mut out[0..69]), Err(NoRoom));
     assert!(rt; out == [b'.'; 71]);
-    assert_eq!(rt; write_listing(&outcomes, &mut out), 70);
+    assert_eq!(rt; write_listing(&outcomes, &mut out), Ok(70));
     assert!(rt;
         out == *b"format ok\nstart ok\narrive ok\ncut ok\nrefused 10 store\nrefused 9 module\n."
     );
@@ -30,8 +31,8 @@ fn writes_each_line(rt: HostRuntime) {
 #[test]
 fn writes_a_fault(rt: HostRuntime) {
     let mut out = [b'.'; 25];
-    assert_eq!(rt; write_fault(34, 2, 10, &mut out[0..23]), 1_000_036);
+    assert_eq!(rt; write_fault(34, 2, 10, &mut out[0..23]), Err(NoRoom));
     assert!(rt; out == [b'.'; 25]);
-    assert_eq!(rt; write_fault(34, 2, 10, &mut out), 24);
+    assert_eq!(rt; write_fault(34, 2, 10, &mut out), Ok(24));
     assert!(rt; out == *b"fault 34 line 2 byte 10\n.");
 }

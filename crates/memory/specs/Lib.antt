@@ -5,5 +5,6 @@ pub mod Post
 pub mod Calls
 pub mod Conduct
 pub mod Held
+pub mod Moves
 pub mod Kinds
 pub mod Worked

@@ -5,6 +5,7 @@ ghost use Rattle.memory.specs.Post.{Formed, word_at, counted};
 ghost use Rattle.memory.specs.Calls.{reply, writes, asks, fences, syncs, arrives};
 ghost use Rattle.memory.specs.Conduct.{Conduct, Keeps, after_call};
 ghost use Rattle.memory.specs.Held.{Frame};
+ghost use Rattle.memory.specs.Moves.{Moved};
 
 use crate::counts::Counts;
 use crate::refusal::Refusal;
@@ -31,28 +32,22 @@ pub trait Memory {
 
     fn write(&mut self, word: usize, value: u64) -> Result<(), Refusal>
         ensures reply { result ≡ reply (writes word value) (conduct.model (meaning self.old)) }
-        ensures after { meaning self.new ≡ after_call conduct (writes word value) (meaning self.old) }
-        ensures lent { frame self.new ≡ frame self.old };
+        ensures moved { Moved meaning frame (after_call conduct (writes word value)) self.old self.new };
 
     fn ask(&mut self, line: usize) -> Result<(), Refusal>
         ensures reply { result ≡ reply (asks line) (conduct.model (meaning self.old)) }
-        ensures after { meaning self.new ≡ after_call conduct (asks line) (meaning self.old) }
-        ensures lent { frame self.new ≡ frame self.old };
+        ensures moved { Moved meaning frame (after_call conduct (asks line)) self.old self.new };
 
     fn fence(&mut self)
-        ensures after { meaning self.new ≡ after_call conduct fences (meaning self.old) }
-        ensures lent { frame self.new ≡ frame self.old };
+        ensures { Moved meaning frame (after_call conduct fences) self.old self.new };
 
     fn sync(&mut self)
-        ensures after { meaning self.new ≡ after_call conduct syncs (meaning self.old) }
-        ensures lent { frame self.new ≡ frame self.old };
+        ensures { Moved meaning frame (after_call conduct syncs) self.old self.new };
 
     fn arrive(&mut self, line: usize) -> Result<(), Refusal>
         ensures reply { result ≡ reply (arrives line) (conduct.model (meaning self.old)) }
-        ensures after { meaning self.new ≡ after_call conduct (arrives line) (meaning self.old) }
-        ensures lent { frame self.new ≡ frame self.old };
+        ensures moved { Moved meaning frame (after_call conduct (arrives line)) self.old self.new };
 
     fn cut(&mut self)
-        ensures after { meaning self.new ≡ conduct.loses (meaning self.old) }
-        ensures lent { frame self.new ≡ frame self.old };
+        ensures { Moved meaning frame conduct.loses self.old self.new };
 }

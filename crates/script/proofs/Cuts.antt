@@ -1,44 +1,59 @@
--- The first piece of a text, and the pieces after it.
-use Rattle.std.proofs.Common.{◌≡◌, ℕ, suc, ◌+◌, ◌<◌, ◌≤◌, cond, eqb, List, [], ◌∷◌, length, get_or, take, drop, refl, ap, ◌∙◌, ⊎_elim, arith}
-use Rattle.std.proofs.lemmas.List.{at_drop_more, at_drop_all}
-use Rattle.std.proofs.lemmas.Bool.{cases_Bool, eq-eqb, ne_eqb, cond-true, cond-false}
-use Rattle.script.specs.Pieces.{on_first, pieces, before}
+-- The first piece of a text, and the pieces after it, each with its place.
+use Rattle.std.proofs.Common.{◌≡◌, ℕ, suc, ◌+◌, ◌-◌, ◌<◌, ◌≤◌, cond, eqb, ◌==◌, List, [], ◌∷◌, length, take, drop, position, Some, None, refl, sym, ap, ◌∙◌, ⊎_elim, arith}
+use Rattle.std.specs.List.{position_or_len}
+use Rattle.std.proofs.lemmas.List.{length-take-le, length-drop, take_all, drop-drop}
+use Rattle.std.proofs.lemmas.List.Recursion.{is_position_or_len}
+use Rattle.std.proofs.lemmas.Bool.{cases_Bool}
+use Rattle.std.proofs.lemmas.Bool.Decides.{nat_tests}
+use Rattle.script.specs.Pieces.{on_first, pieces}
+use Rattle.script.specs.Places.{Spot, spots_at}
 
-pub before_le : (sep : ℕ) (bs : List ℕ) → before sep bs ≤ length bs
+-- how many bytes come before the first sep
+abbrev before : ℕ → List ℕ → ℕ
+before sep [] = 0
+before sep (c ∷ cs) = cond (c == sep) 0 (suc (before sep cs))
+
+is_before : (sep : ℕ) (bs : List ℕ) → before sep bs ≡ position_or_len (λ b. b == sep) bs
+is_before sep bs = is_position_or_len (before sep) (λ b. b == sep) refl (λ x xs. ap (cond (x == sep) 0) (omega arith)) bs
+
+before_le : (sep : ℕ) (bs : List ℕ) → before sep bs ≤ length bs
 before_le sep [] = omega arith
 before_le sep (c ∷ cs) =
     ⊎_elim (λ e. rw e (omega arith)) (λ e. rw e (omega (arith, before_le sep cs))) (cases_Bool (eqb c sep))
 
 -- a separator is there
-pub cut_here : (sep : ℕ) (last : List (List ℕ)) (bs : List ℕ) → before sep bs < length bs → pieces sep last bs ≡ take (before sep bs) bs ∷ pieces sep last (drop (suc (before sep bs)) bs)
+cut_here : (sep : ℕ) (last : List (List ℕ)) (bs : List ℕ) → before sep bs < length bs → pieces sep last bs ≡ take (before sep bs) bs ∷ pieces sep last (drop (suc (before sep bs)) bs)
 cut_here sep last [] h = absurd (omega arith)
 cut_here sep last (c ∷ cs) h =
     ⊎_elim (λ e. rw e) (λ e. let k : before sep cs < length cs = omega (arith, rw e at h) in rw e (ap (on_first c) (cut_here sep last cs k))) (cases_Bool (eqb c sep))
 
--- none is there: of words, and of lines
-pub cut-none : (sep : ℕ) (bs : List ℕ) → before sep bs ≡ length bs → pieces sep ([] ∷ []) bs ≡ bs ∷ []
+-- none is there
+cut-none : (sep : ℕ) (bs : List ℕ) → before sep bs ≡ length bs → pieces sep ([] ∷ []) bs ≡ bs ∷ []
 cut-none sep [] h = refl
 cut-none sep (c ∷ cs) h =
     ⊎_elim (λ e. let z : 0 ≡ suc (length cs) = rw e at h in absurd (omega arith)) (λ e. let k : suc (before sep cs) ≡ suc (length cs) = rw e at h in rw e (ap (on_first c) (cut-none sep cs (omega arith)))) (cases_Bool (eqb c sep))
 
-pub cut_last : (sep : ℕ) (bs : List ℕ) → before sep bs ≡ length bs → 0 < length bs → pieces sep [] bs ≡ bs ∷ []
-cut_last sep [] h p = absurd (omega arith)
-cut_last sep (c ∷ []) h p =
-    ⊎_elim (λ e. let z : 0 ≡ suc 0 = rw e at h in absurd (omega arith)) (λ e. rw e) (cases_Bool (eqb c sep))
-cut_last sep (c ∷ (d ∷ ds)) h p =
-    ⊎_elim (λ e. let z : 0 ≡ suc (suc (length ds)) = rw e at h in absurd (omega arith)) (λ e. let k : suc (before sep (d ∷ ds)) ≡ suc (length (d ∷ ds)) = rw e at h in rw e (ap (on_first c) (cut_last sep (d ∷ ds) (omega arith) (omega arith)))) (cases_Bool (eqb c sep))
+abbrev pub spot : ℕ → ℕ → List ℕ → Spot
+spot line byte bs = record { text = bs; line = line; byte = byte }
 
--- the search for a separator, one byte on, at one and at the end
-pub before_more : (sep : ℕ) (bs : List ℕ) (i : ℕ) → i < length bs → (get_or bs i 0 ≡ sep → ⊥) → i + before sep (drop i bs) ≡ i + 1 + before sep (drop (i + 1) bs)
-before_more sep bs i h n =
-    let e : before sep (drop i bs) ≡ cond (eqb (get_or bs i 0) sep) 0 (suc (before sep (drop (i + 1) bs))) = at_drop_more (before sep) bs i 0 h in
-    let f : before sep (drop i bs) ≡ suc (before sep (drop (i + 1) bs)) = e ∙ cond-false _ 0 (suc (before sep (drop (i + 1) bs))) (ne_eqb (get_or bs i 0) sep n) in
-    omega arith
+pub last-piece : (sep line byte : ℕ) (bs : List ℕ) → position (λ b. b == sep) bs ≡ None → spots_at sep line byte (pieces sep ([] ∷ []) bs) ≡ spot line byte bs ∷ []
+last-piece sep line byte bs h =
+    let e = is_before sep bs in
+    let le = before_le sep bs in
+    let all : before sep bs ≡ length bs = grind (arith, nat_tests) in
+    ap (spots_at sep line byte) (cut-none sep bs all)
 
-pub before_at : (sep : ℕ) (bs : List ℕ) (i : ℕ) → i < length bs → get_or bs i 0 ≡ sep → before sep (drop i bs) ≡ 0
-before_at sep bs i h n =
-    let e : before sep (drop i bs) ≡ cond (eqb (get_or bs i 0) sep) 0 (suc (before sep (drop (i + 1) bs))) = at_drop_more (before sep) bs i 0 h in
-    e ∙ cond-true _ 0 (suc (before sep (drop (i + 1) bs))) (eq-eqb (get_or bs i 0) sep n)
-
-pub before_end : (sep : ℕ) (bs : List ℕ) (i : ℕ) → length bs ≤ i → before sep (drop i bs) ≡ 0
-before_end sep bs i h = at_drop_all (before sep) bs i h
+pub first-piece : (sep line byte line' byte' n : ℕ) (bs front back : List ℕ) → position (λ b. b == sep) bs ≡ Some n → front ≡ take n bs → back ≡ drop n bs → cond (sep == 10) (line + 1) line ≡ line' → cond (sep == 10) 1 (byte + n + 1) ≡ byte'
+    → spots_at sep line byte (pieces sep ([] ∷ []) bs) ≡ spot line byte front ∷ spots_at sep line' byte' (pieces sep ([] ∷ []) (take (length back - 1) (drop 1 back)))
+first-piece sep line byte line' byte' n bs front back h f b l y =
+    let e = is_before sep bs in
+    let at : before sep bs ≡ n = grind (arith, nat_tests) in
+    let lt : before sep bs < length bs = grind (arith, nat_tests) in
+    let len : length front ≡ n = ap length f ∙ length-take-le n bs (omega arith) in
+    let here : take (before sep bs) bs ≡ front = ap (λ k. take k bs) at ∙ sym f in
+    let behind : suc (before sep bs) ≡ n + 1 = omega (arith, at) in
+    let rest : drop (suc (before sep bs)) bs ≡ take (length back - 1) (drop 1 back) = ap (λ k. drop k bs) behind ∙ sym (drop-drop 1 n bs) ∙ ap (drop 1) (sym b) ∙ sym (take_all (length back - 1) (drop 1 back) (omega (arith, length-drop 1 back))) in
+    let cut : pieces sep ([] ∷ []) bs ≡ front ∷ pieces sep ([] ∷ []) (take (length back - 1) (drop 1 back)) = cut_here sep ([] ∷ []) bs lt ∙ ap (λ w. w ∷ pieces sep ([] ∷ []) (drop (suc (before sep bs)) bs)) here ∙ ap (λ r. front ∷ pieces sep ([] ∷ []) r) rest in
+    let ws = pieces sep ([] ∷ []) (take (length back - 1) (drop 1 back)) in
+    ap (spots_at sep line byte) cut ∙ ap (λ k. spot line byte front ∷ spots_at sep (cond (sep == 10) (line + 1) line) (cond (sep == 10) 1 (byte + k + 1)) ws) len
+    ∙ ap (λ k. spot line byte front ∷ spots_at sep k (cond (sep == 10) 1 (byte + n + 1)) ws) l ∙ ap (λ k. spot line byte front ∷ spots_at sep line' k ws) y

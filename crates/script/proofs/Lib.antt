@@ -1,5 +1,5 @@
 mod Digits
 mod Cuts
-mod Turns
+mod Spots
 mod Counts
 mod Lines

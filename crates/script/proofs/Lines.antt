@@ -1,27 +1,37 @@
--- One line more of a script that is a call.
-use Rattle.std.proofs.Common.{◌≡◌, ℕ, ◌+◌, ◌-◌, ◌<◌, min, true, ltb, List, [], ◌∷◌, Some, Ok, Result, sym, ap, ◌∙◌, arith}
+-- The lines of a script: how many there are at most, and one line more that is a call.
+use Rattle.std.proofs.Common.{◌≡◌, ℕ, suc, ◌+◌, ◌-◌, ◌^◌, ◌<◌, cond, min, true, ltb, ◌==◌, List, [], ◌∷◌, length, Some, None, Option, Ok, Result, sym, ap, refl, arith}
 use Rattle.std.proofs.lemmas.Bool.{lt-ltb}
 use Rattle.std.proofs.lemmas.Bool.Decides.{nat_tests}
 use Rattle.script.specs.declared.call.Call.{Call}
 use Rattle.script.specs.declared.fault.Fault.{Fault}
 use Rattle.script.specs.declared.setup.Setup.{Setup}
-use Rattle.script.specs.Places.{Spot, words_in, first_of, rest_of}
+use Rattle.script.specs.declared.words.Part.{Part}
+use Rattle.script.specs.Pieces.{pieces}
+use Rattle.script.specs.Places.{Spot, words_in, spots_at}
+use Rattle.script.specs.Ahead.{ahead_of}
 use Rattle.script.specs.Calls.{call_of}
 use Rattle.script.specs.Readings.{with_call, calls_of}
+use Rattle.script.proofs.Counts.{length-pieces-le}
+
+length-spots_at : (sep : ℕ) (ws : List (List ℕ)) (line byte : ℕ) → length (spots_at sep line byte ws) ≡ length ws
+length-spots_at sep [] line byte = refl
+length-spots_at sep (w ∷ ws) line byte = ap suc (length-spots_at sep ws (cond (sep == 10) (line + 1) line) (cond (sep == 10) 1 (byte + length w + 1)))
+
+pub ahead_short : (sep : ℕ) (rest : Option Part) → length (ahead_of sep rest) < 2 ^ 64
+ahead_short sep None = omega arith
+ahead_short sep (Some p) =
+    omega (arith, length-spots_at sep (pieces sep ([] ∷ []) p.bytes.now) p.line p.byte, length-pieces-le sep p.bytes.now, p.byte_fits)
 
 abbrev pub line_call : Spot → Result Call Fault
 line_call l = call_of l.line (words_in l.line l.text)
 
 -- the lines from a call on
-pub one_more : (s : Setup) (left left' : ℕ) (l : Spot) (c : Call) (ls rest : List Spot) → Some l ≡ first_of ls → rest ≡ rest_of ls → 0 < left → left' ≡ left - 1 → Ok c ≡ line_call l → calls_of s left ls ≡ with_call c (calls_of s left' rest)
-one_more s left left' l c [] rest first more some fewer is = let z : ◌≡◌ {A = ℕ} 0 1 = cc in absurd (omega arith)
-one_more s left left' l c (x ∷ xs) rest first more some fewer is =
-    let at : l ≡ x = cc in
-    let here : line_call x ≡ Ok c = ap line_call (sym at) ∙ sym is in
+pub one_more : (s : Setup) (left left' : ℕ) (l : Spot) (c : Call) (ls : List Spot) → 0 < left → left' ≡ left - 1 → Ok c ≡ line_call l → calls_of s left (l ∷ ls) ≡ with_call c (calls_of s left' ls)
+one_more s left left' l c ls some fewer is =
+    let here : line_call l ≡ Ok c = sym is in
     let t : ltb 0 left ≡ true = lt-ltb 0 left some in
     let left_is : left - 1 ≡ left' = sym fewer in
-    let xs-is : xs ≡ rest = sym more in
-    simp (t, here, left_is, xs-is)
+    simp (t, here, left_is)
 
 -- a call more leaves one call fewer to come
 pub one_fewer : (count most used room used' room' : ℕ) → count < most → used < room → used' ≡ used + 1 → room' ≡ room → min (most - (count + 1)) (room' - used') ≡ min (most - count) (room - used) - 1

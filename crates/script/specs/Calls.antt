@@ -1,6 +1,5 @@
 -- What call a line of a script is.
-use Rattle.std.specs.Prelude.{ℕ, Bool, cond, List, length, Some, None, Ok, Err, codes, Option, Result, ◌==◌}
-use Rattle.std.specs.Str.{bytes_eq}
+use Rattle.std.specs.Prelude.{ℕ, Bool, cond, List, [], ◌∷◌, length, Some, None, Ok, Err, codes, Option, Result, ◌==◌}
 use Rattle.script.specs.declared.fault.Fault.{Fault}
 use Rattle.script.specs.declared.fault.FaultKind.TheVariants.{UnknownWord, FieldCount, NoNumber}
 use Rattle.script.specs.declared.call.Verb.{Verb}
@@ -9,14 +8,17 @@ use Rattle.script.specs.declared.call.Call.{Call}
 use Rattle.script.specs.declared.call.Call.TheVariants.{Format as FormatCall, Start as StartCall, Arrive as ArriveCall, Cut as CutCall}
 use Rattle.script.specs.Places.{Seen, first_of, rest_of, text_of}
 use Rattle.script.specs.Places.Seen.{name, number}
+use Rattle.script.specs.Names.{named}
 use Rattle.script.specs.Faults.{at_line}
 
+abbrev pub verb_name : Verb → List ℕ
+verb_name Format = codes "format"
+verb_name Start = codes "start"
+verb_name Arrive = codes "arrive"
+verb_name Cut = codes "cut"
+
 abbrev pub verb_of : List ℕ → Option Verb
-verb_of bs =
-    cond (bytes_eq bs (codes "format")) (Some Format)
-    (cond (bytes_eq bs (codes "start")) (Some Start)
-    (cond (bytes_eq bs (codes "arrive")) (Some Arrive)
-    (cond (bytes_eq bs (codes "cut")) (Some Cut) None)))
+verb_of bs = named verb_name (Format ∷ Start ∷ Arrive ∷ Cut ∷ []) bs
 
 -- how many words a line with this verb may have
 abbrev pub counted : Verb → ℕ → Bool

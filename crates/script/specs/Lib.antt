@@ -1,6 +1,7 @@
 pub mod Numbers
 pub mod Pieces
 pub mod Places
+pub mod Names
 pub mod Faults
 pub mod Setups
 pub mod Calls

@@ -1,5 +1,5 @@
 -- Text cut at each byte of one kind.
-use Rattle.std.specs.Prelude.{ℕ, suc, cond, List, [], ◌∷◌, ◌==◌}
+use Rattle.std.specs.Prelude.{ℕ, cond, List, [], ◌∷◌, ◌==◌}
 
 -- one byte more at the front of the first piece
 abbrev pub on_first : ℕ → List (List ℕ) → List (List ℕ)
@@ -18,8 +18,3 @@ lines_of bs = pieces 10 [] bs
 -- words are split at each space
 abbrev pub words_of : List ℕ → List (List ℕ)
 words_of bs = pieces 32 ([] ∷ []) bs
-
--- how many bytes come before the first sep
-abbrev pub before : ℕ → List ℕ → ℕ
-before sep [] = 0
-before sep (c ∷ cs) = cond (c == sep) 0 (suc (before sep cs))

@@ -1,5 +1,5 @@
 -- The lines of a script and the words of a line, each with its place.
-use Rattle.std.specs.Prelude.{ℕ, ◌+◌, List, [], ◌∷◌, length, Some, None, Option}
+use Rattle.std.specs.Prelude.{ℕ, ◌+◌, cond, List, [], ◌∷◌, length, Some, None, Option, ◌==◌}
 use Rattle.script.specs.Numbers.{number_of}
 use Rattle.script.specs.Pieces.{words_of, lines_of}
 
@@ -18,9 +18,12 @@ abbrev pub seen_as : Spot → Option ℕ → Seen
 seen_as s None = name s
 seen_as s (Some n) = number s n
 
+abbrev pub seen_at : Spot → Seen
+seen_at s = seen_as s (number_of s.text)
+
 -- the word at a place
 abbrev pub word_at : ℕ → ℕ → List ℕ → Seen
-word_at line byte bs = seen_as (record { text = bs; line = line; byte = byte }) (number_of bs)
+word_at line byte bs = seen_at (record { text = bs; line = line; byte = byte })
 
 abbrev pub words_at : ℕ → ℕ → List (List ℕ) → List Seen
 words_at line byte [] = []
@@ -52,3 +55,9 @@ abbrev pub text_of : Option Seen → List ℕ
 text_of None = []
 text_of (Some (name s)) = s.text
 text_of (Some (number s n)) = s.text
+
+-- pieces with their places: behind an LF a line begins, and behind another separator the line goes on
+abbrev pub spots_at : ℕ → ℕ → ℕ → List (List ℕ) → List Spot
+spots_at sep line byte [] = []
+spots_at sep line byte (w ∷ ws) =
+    record { text = w; line = line; byte = byte } ∷ spots_at sep (cond (sep == 10) (line + 1) line) (cond (sep == 10) 1 (byte + length w + 1)) ws

@@ -2,12 +2,13 @@
 ghost use Rattle.std.specs.Prelude.{◌≡◌};
 ghost use Rattle.script.specs.Places.{words_in, first_of, rest_of};
 ghost use Rattle.script.specs.Ahead.{words_ahead};
-ghost use Rattle.script.specs.Calls.{verb_of, counted, field_of, fields_of, call_of};
+ghost use Rattle.script.specs.Calls.{verb_name, counted, field_of, fields_of, call_of};
 
 use crate::fault::{Fault, FaultKind};
-use crate::words::{Part, Word, Words, count_words, is, text_of};
+use crate::names::{Named, find_named};
+use crate::words::{Part, Pieces, Word, count_words, next_word};
 
-#[derive(Clone, Copy)]
+#[derive(Clone, Copy, Debug, PartialEq, Eq)]
 pub enum Call {
     Format(u64),
     Start,
@@ -16,29 +17,28 @@ pub enum Call {
 }
 
 // The first word of a call.
-#[derive(Clone, Copy)]
-enum Verb {
+#[derive(Clone, Copy, Debug, PartialEq, Eq)]
+pub enum Verb {
     Format,
     Start,
     Arrive,
     Cut,
 }
 
-fn read_verb(name: &[u8]) -> Option<Verb>
-    ensures { result ≡ verb_of name.now }
-{
-    if is(name, b"format") {
-        Some(Verb::Format)
-    } else if is(name, b"start") {
-        Some(Verb::Start)
-    } else if is(name, b"arrive") {
-        Some(Verb::Arrive)
-    } else if is(name, b"cut") {
-        Some(Verb::Cut)
-    } else {
-        None
+impl Named for Verb {
+    ghost name_of = { verb_name };
+
+    fn name(self) -> &'static str {
+        match self {
+            Verb::Format => "format",
+            Verb::Start => "start",
+            Verb::Arrive => "arrive",
+            Verb::Cut => "cut",
+        }
     }
 }
+
+const VERBS: [Verb; 4] = [Verb::Format, Verb::Start, Verb::Arrive, Verb::Cut];
 
 // Whether a line with this verb may have `n` words.
 fn has_count(verb: Verb, n: usize) -> bool
@@ -53,35 +53,28 @@ fn has_count(verb: Verb, n: usize) -> bool
 }
 
 // The next word as a number.
-fn field(words: &mut Words<'_>, line: usize) -> Result<u64, Fault>
+fn field(words: &mut Pieces<'_>, line: usize) -> Result<u64, Fault>
     ensures value { result ≡ field_of line (first_of (words_ahead words.old)) }
     ensures after { words_ahead words.new ≡ rest_of (words_ahead words.old) }
 {
-    match words.next() {
-        Some(Word::Number(_, n)) => Ok(n),
-        Some(Word::Name(part)) => Err(Fault {
+    match next_word(words).ok_or(FaultKind::FieldCount.at_line(line))? {
+        Word::Number(_, n) => Ok(n),
+        Word::Name(part) => Err(Fault {
             kind: FaultKind::NoNumber,
             line: part.line,
             byte: part.byte,
         }),
-        None => Err(FaultKind::FieldCount.at_line(line)),
     }
 }
 
 // The call of a verb with the fields that are still to come.
-fn fields(words: &mut Words<'_>, line: usize, verb: Verb) -> Result<Call, Fault>
+fn fields(words: &mut Pieces<'_>, line: usize, verb: Verb) -> Result<Call, Fault>
     ensures { result ≡ fields_of line verb (words_ahead words.old) }
 {
     match verb {
-        Verb::Format => {
-            let lines = field(words, line)?;
-            Ok(Call::Format(lines))
-        }
+        Verb::Format => Ok(Call::Format(field(words, line)?)),
         Verb::Start => Ok(Call::Start),
-        Verb::Arrive => {
-            let line_number = field(words, line)?;
-            Ok(Call::Arrive(line_number))
-        }
+        Verb::Arrive => Ok(Call::Arrive(field(words, line)?)),
         Verb::Cut => Ok(Call::Cut),
     }
 }
@@ -92,10 +85,10 @@ pub(crate) fn read_call(line: Part<'_>) -> Result<Call, Fault>
 {
     let at = line.line;
     let n = count_words(line);
-    let mut words = Words::new(line);
-    let Some(verb) = read_verb(text_of(words.next())) else {
-        return Err(FaultKind::UnknownWord.at_line(at));
-    };
+    let mut words = Pieces::words(line);
+    let verb = next_word(&mut words)
+        .and_then(|word| find_named(&VERBS, word.bytes()))
+        .ok_or(FaultKind::UnknownWord.at_line(at))?;
     if !has_count(verb, n) {
         return Err(FaultKind::FieldCount.at_line(at));
     }

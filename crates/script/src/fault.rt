@@ -2,18 +2,18 @@
 ghost use Rattle.std.specs.Prelude.{◌≡◌};
 ghost use Rattle.script.specs.Faults.{fault_number, at_line};
 
-#[derive(Clone, Copy)]
+#[derive(Clone, Copy, Debug, PartialEq, Eq)]
 pub enum FaultKind {
-    TooManyCalls,
-    UnknownWord,
-    FieldCount,
-    NoNumber,
-    WrongFirstLine,
-    TooLong,
+    TooManyCalls = 31,
+    UnknownWord = 32,
+    FieldCount = 33,
+    NoNumber = 34,
+    WrongFirstLine = 35,
+    TooLong = 38,
 }
 
 // The line and the byte in that line are counted from 1.
-#[derive(Clone, Copy)]
+#[derive(Clone, Copy, Debug, PartialEq, Eq)]
 pub struct Fault {
     pub kind: FaultKind,
     pub line: usize,
@@ -24,14 +24,7 @@ impl FaultKind {
     pub fn number(self) -> u64
         ensures { result ≡ fault_number self }
     {
-        match self {
-            FaultKind::TooManyCalls => 31,
-            FaultKind::UnknownWord => 32,
-            FaultKind::FieldCount => 33,
-            FaultKind::NoNumber => 34,
-            FaultKind::WrongFirstLine => 35,
-            FaultKind::TooLong => 38,
-        }
+        self as u64
     }
 
     // The fault of a whole line.

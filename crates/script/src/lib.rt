@@ -3,6 +3,7 @@
 
 mod call;
 mod fault;
+mod names;
 mod number;
 mod reading;
 mod setup;
@@ -10,7 +11,8 @@ mod setup;
 mod tests;
 mod words;
 
-pub use call::Call;
+pub use call::{Call, Verb};
 pub use fault::{Fault, FaultKind};
+pub use names::Named;
 pub use reading::read_script;
 pub use setup::{MemoryKind, ObjectKind, Setup};

@@ -1,26 +1,26 @@
 // A word of a script as a number below 2^64.
-ghost use Rattle.std.specs.Prelude.{◌≡◌};
+ghost use Rattle.std.specs.Prelude.{◌≡◌, [], ◌∷◌};
 ghost use Rattle.script.specs.Numbers.{digit_of, number_from, number_of};
 
 fn digit(byte: u8) -> Option<u64>
     ensures { result ≡ digit_of byte }
 {
-    match byte {
-        b'0'..=b'9' => Some((byte - b'0') as u64),
-        _ => None,
-    }
+    char::from(byte).to_digit(10).map(u64::from)
+}
+
+// The number with one digit more.
+fn with_digit(value: u64, byte: u8) -> Option<u64>
+    ensures { result ≡ number_from value (byte ∷ []) }
+{
+    value.checked_mul(10)?.checked_add(digit(byte)?)
 }
 
 // The number that `start` and then the digits of `rest` write.
 fn continued(start: u64, rest: &[u8]) -> Option<u64>
     ensures { result ≡ number_from start rest.now }
 {
-    let mut value = start;
-    for b in rest {
-        let d = digit(*b)?;
-        value = value.checked_mul(10)?.checked_add(d)?;
-    }
-    Some(value)
+    rest.iter()
+        .try_fold(start, |value, b| with_digit(value, *b))
 }
 
 // Digits only, no zero before another digit, below 2^64.
@@ -30,9 +30,6 @@ pub(crate) fn read_number(word: &[u8]) -> Option<u64>
     match word {
         [] => None,
         [b'0', _, ..] => None,
-        [first, rest @ ..] => {
-            let d = digit(*first)?;
-            continued(d, rest)
-        }
+        [first, rest @ ..] => continued(digit(*first)?, rest),
     }
 }

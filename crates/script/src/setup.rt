@@ -1,50 +1,63 @@
 // The first line of a script: which object the store keeps, over which memory.
 ghost use Rattle.std.specs.Prelude.{◌≡◌};
-ghost use Rattle.script.specs.Places.{words_in};
-ghost use Rattle.script.specs.Setups.{object_of, memory_of, setup_of};
+ghost use Rattle.script.specs.Places.{words_in, first_of, rest_of, text_of};
+ghost use Rattle.script.specs.Ahead.{words_ahead};
+ghost use Rattle.script.specs.Setups.{object_name, memory_name, object_of, memory_of, setup_from, setup_of};
 
-use crate::words::{Part, Words, count_words, is, text_of};
+use crate::names::{Named, find_named};
+use crate::words::{Part, Pieces, count_words, next_word};
 
-#[derive(Clone, Copy)]
+#[derive(Clone, Copy, Debug, PartialEq, Eq)]
 pub enum ObjectKind {
     Queue,
     Stack,
 }
 
-#[derive(Clone, Copy)]
+#[derive(Clone, Copy, Debug, PartialEq, Eq)]
 pub enum MemoryKind {
     Lazy,
     Prompt,
 }
 
-#[derive(Clone, Copy)]
+#[derive(Clone, Copy, Debug, PartialEq, Eq)]
 pub struct Setup {
     pub object: ObjectKind,
     pub memory: MemoryKind,
 }
 
-fn read_object(name: &[u8]) -> Option<ObjectKind>
-    ensures { result ≡ object_of name.now }
-{
-    if is(name, b"queue") {
-        Some(ObjectKind::Queue)
-    } else if is(name, b"stack") {
-        Some(ObjectKind::Stack)
-    } else {
-        None
+impl Named for ObjectKind {
+    ghost name_of = { object_name };
+
+    fn name(self) -> &'static str {
+        match self {
+            ObjectKind::Queue => "queue",
+            ObjectKind::Stack => "stack",
+        }
     }
 }
 
-fn read_memory(name: &[u8]) -> Option<MemoryKind>
-    ensures { result ≡ memory_of name.now }
-{
-    if is(name, b"lazy") {
-        Some(MemoryKind::Lazy)
-    } else if is(name, b"prompt") {
-        Some(MemoryKind::Prompt)
-    } else {
-        None
+impl Named for MemoryKind {
+    ghost name_of = { memory_name };
+
+    fn name(self) -> &'static str {
+        match self {
+            MemoryKind::Lazy => "lazy",
+            MemoryKind::Prompt => "prompt",
+        }
     }
+}
+
+const OBJECTS: [ObjectKind; 2] = [ObjectKind::Queue, ObjectKind::Stack];
+
+const MEMORIES: [MemoryKind; 2] = [MemoryKind::Lazy, MemoryKind::Prompt];
+
+// The setup that the next two words name.
+fn named_setup(words: &mut Pieces<'_>) -> Option<Setup>
+    ensures { result ≡ setup_from (object_of (text_of (first_of (words_ahead words.old)))) (memory_of (text_of (first_of (rest_of (words_ahead words.old))))) }
+{
+    let object = find_named(&OBJECTS, next_word(words)?.bytes())?;
+    let memory = find_named(&MEMORIES, next_word(words)?.bytes())?;
+    Some(Setup { object, memory })
 }
 
 // The setup that a line is, if it is one.
@@ -54,11 +67,9 @@ pub(crate) fn read_setup(line: Part<'_>) -> Option<Setup>
     if count_words(line) != 3 {
         return None;
     }
-    let mut words = Words::new(line);
-    if !is(text_of(words.next()), b"store") {
+    let mut words = Pieces::words(line);
+    if next_word(&mut words)?.bytes() != b"store".as_slice() {
         return None;
     }
-    let object = read_object(text_of(words.next()))?;
-    let memory = read_memory(text_of(words.next()))?;
-    Some(Setup { object, memory })
+    named_setup(&mut words)
 }

@@ -13,12 +13,7 @@ fn outcome(script: &[u8], memory: &mut [Call]) -> (u64, usize, usize) {
 
 fn fill_with_cuts(lines: &mut [u8]) {
     for (i, byte) in lines.iter_mut().enumerate() {
-        *byte = match i % 4 {
-            0 => b'c',
-            1 => b'u',
-            2 => b't',
-            _ => b'\n',
-        };
+        *byte = b"cut\n"[i % 4];
     }
 }
 
@@ -26,28 +21,25 @@ fn fill_with_cuts(lines: &mut [u8]) {
 fn reads_setup_and_calls(rt: HostRuntime) {
     let mut memory = [Call::Cut; 5];
     let mut calls = Bounded::new(&mut memory);
-    assert!(rt; calls.push(Call::Start));
+    assert_eq!(rt; calls.push(Call::Start), Ok(()));
     let script = b"store stack prompt\nformat 18446744073709551615\nstart\narrive 0\ncut";
-    assert!(rt;
-        matches!(
-            read_script(script, &mut calls),
-            Ok(Setup {
-                object: ObjectKind::Stack,
-                memory: MemoryKind::Prompt
-            })
-        )
+    assert_eq!(rt;
+        read_script(script, &mut calls),
+        Ok(Setup {
+            object: ObjectKind::Stack,
+            memory: MemoryKind::Prompt
+        })
     );
-    assert!(rt;
-        matches!(
-            calls.as_slice(),
-            [
-                Call::Start,
-                Call::Format(18_446_744_073_709_551_615),
-                Call::Start,
-                Call::Arrive(0),
-                Call::Cut
-            ]
-        )
+    assert_eq!(rt;
+        calls.as_slice(),
+        [
+            Call::Start,
+            Call::Format(18_446_744_073_709_551_615),
+            Call::Start,
+            Call::Arrive(0),
+            Call::Cut
+        ]
+        .as_slice()
     );
 }
 

@@ -1,2 +1,3 @@
-pub mod Parts
+pub mod Outside
+pub mod Found
 pub mod Format

@@ -2,10 +2,8 @@
 #![tactic(auto)]
 
 mod index;
-mod layout;
-mod refusal;
 mod store;
-mod table;
+mod workers;
 
-pub use refusal::{Layer, Refusal};
+pub use machine::{Layer, Refusal};
 pub use store::Store;

@@ -4,6 +4,7 @@ ghost use Rattle.memory.specs.Model.{arrivals, way, write};
 ghost use Rattle.memory.specs.Post.{inside_word, stores};
 ghost use Rattle.memory.specs.Calls.{reply, writes};
 ghost use Rattle.memory.specs.Held.{opened, front, framed, line_count};
+ghost use Rattle.memory.specs.Moves.{Moved};
 ghost use Rattle.memory.specs.Kinds.{lazy, lazy_meaning, lazy_frame};
 
 use super::Lazy;
@@ -43,8 +44,7 @@ impl Lazy<'_> {
     // Lets the lines of a set arrive.
     #[tactic(auto, using(crate::proofs::Images::in_images, crate::proofs::Images::held_arrivals))]
     fn arrive_all(&mut self, set: LineSet)
-        ensures after { lazy_meaning self.new ≡ arrivals set (lazy_meaning self.old) }
-        ensures lent { lazy_frame self.new ≡ lazy_frame self.old }
+        ensures moved { Moved lazy_meaning lazy_frame (arrivals set) self.old self.new }
         ensures long { length self.new.kept.now ≡ length self.old.kept.now }
     {
         let Lazy { kept, current, .. } = self;
@@ -54,8 +54,7 @@ impl Lazy<'_> {
 
     // Lets the due lines arrive where the line is one of them.
     fn make_way(&mut self, line: Line)
-        ensures after { lazy_meaning self.new ≡ way line (lazy_meaning self.old) }
-        ensures lent { lazy_frame self.new ≡ lazy_frame self.old }
+        ensures moved { Moved lazy_meaning lazy_frame (way line) self.old self.new }
         ensures long { length self.new.kept.now ≡ length self.old.kept.now }
     {
         let due = self.on_the_way.due;
@@ -68,8 +67,7 @@ impl Lazy<'_> {
     fn put(&mut self, line: Line, word: usize, value: u64)
         requires line { line ≡ word / 8 }
         requires inside { word < 8 * line_count (length self.old.kept.now) }
-        ensures after { lazy_meaning self.new ≡ write word value (lazy_meaning self.old) }
-        ensures lent { lazy_frame self.new ≡ lazy_frame self.old }
+        ensures moved { Moved lazy_meaning lazy_frame (write word value) self.old self.new }
     {
         self.make_way(line);
         self.current[word] = value;
@@ -79,8 +77,7 @@ impl Lazy<'_> {
     // Writes one word, asks for its line and syncs.
     fn store(&mut self, word: usize, value: u64) -> Result<(), Refusal>
         ensures reply { result ≡ reply (writes word value) (lazy_meaning self.old) }
-        ensures after { lazy_meaning self.new ≡ stores word value (lazy_meaning self.old) }
-        ensures lent { lazy_frame self.new ≡ lazy_frame self.old }
+        ensures moved { Moved lazy_meaning lazy_frame (stores word value) self.old self.new }
     {
         let line = Line::of_word(self.kept.len(), word)?;
         self.put(line, word, value);

@@ -1,127 +1,123 @@
-// How a script is cut: the next line of it, and the next word of a line.
-ghost use Rattle.std.specs.Prelude.{◌≡◌, ◌+◌, ◌≤◌, length, drop};
+// How a script is cut into lines, and a line into words.
+ghost use Rattle.std.specs.Prelude.{◌≡◌, ◌==◌, ◌∷◌, length, position, Some};
+ghost use Rattle.std.specs.Iterator.{YieldsFirstBy, item_count};
 ghost use Rattle.std.specs.Option.{option_map};
-ghost use Rattle.std.specs.Str.{bytes_eq};
-ghost use Rattle.script.specs.Pieces.{before};
-ghost use Rattle.script.specs.Places.{text_of, word_at, words_in, lines_in, first_of, rest_of};
-ghost use Rattle.script.specs.Ahead.{seen_of, spot_of, words_ahead, lines_ahead};
+ghost use Rattle.script.specs.Places.{words_in, seen_at, first_of, rest_of, text_of};
+ghost use Rattle.script.specs.Ahead.{spot_of, seen_of, ahead_of, pieces_ahead, words_ahead, lines_or_one};
 
-use super::{Lines, Part, Word, Words};
+use super::{Part, Pieces, Word};
 use crate::number::read_number;
 
-// The place of the first `sep` at or after `from`, or the end.
-fn find(bytes: &[u8], from: usize, sep: u8) -> usize
-    requires { from ≤ length bytes.now }
-    ensures value { result ≡ from + before sep (drop from bytes.now) }
-    ensures within { result ≤ length bytes.now }
+// The place of the first `sep`.
+fn find(bytes: &[u8], sep: u8) -> Option<usize>
+    ensures { result ≡ position (λ b. b == sep) bytes.now }
 {
-    let mut i = from;
-    while i < bytes.len() && bytes[i] != sep {
-        i += 1;
-    }
-    i
+    bytes.iter().position(|b| *b == sep)
 }
 
-// The word that `part` is.
-fn word(part: Part<'_>) -> Word<'_>
-    ensures { seen_of result ≡ word_at part.entry.line part.entry.byte part.entry.bytes.now }
+// The first piece of a part, and what is left behind its separator.
+fn cut(part: Part<'_>, sep: u8) -> (Part<'_>, Option<Part<'_>>)
+    ensures { ahead_of sep (Some part.entry) ≡ spot_of result.0 ∷ ahead_of sep result.1 }
 {
-    match read_number(part.bytes) {
-        Some(n) => Word::Number(part, n),
-        None => Word::Name(part),
+    let Some(n) = find(part.bytes, sep) else {
+        return (part, None);
+    };
+    let (front, back) = part.bytes.split_at(n);
+    let first = Part {
+        bytes: front,
+        line: part.line,
+        byte: part.byte,
+    };
+    let (line, byte) = if sep == b'\n' {
+        (part.line + 1, 1)
+    } else {
+        (part.line, part.byte + n + 1)
+    };
+    let rest = Part {
+        bytes: &back[1..],
+        line,
+        byte,
+    };
+    (first, Some(rest))
+}
+
+impl<'a> From<Part<'a>> for Word<'a> {
+    ghost from_gives = { λ p w. seen_of w ≡ seen_at (spot_of p) };
+
+    fn from(part: Part<'a>) -> Word<'a> {
+        match read_number(part.bytes) {
+            Some(n) => Word::Number(part, n),
+            None => Word::Name(part),
+        }
     }
 }
 
-// Whether a word is this text.
-pub(crate) fn is(word: &[u8], text: &[u8]) -> bool
-    ensures { result ≡ bytes_eq word.now text.now }
+impl<'a> Word<'a> {
+    pub(crate) fn bytes(self) -> &'a [u8]
+        ensures { result.now ≡ text_of (Some (seen_of self.entry)) }
+    {
+        match self {
+            Word::Name(part) | Word::Number(part, _) => part.bytes,
+        }
+    }
+}
+
+// The next word of a line, a name or a number.
+pub(crate) fn next_word<'a>(words: &mut Pieces<'a>) -> Option<Word<'a>>
+    ensures value { option_map seen_of result ≡ first_of (words_ahead words.old) }
+    ensures after { words_ahead words.new ≡ rest_of (words_ahead words.old) }
 {
-    word == text
+    words.next().map(Word::from)
 }
 
 // How many words a line has.
 pub(crate) fn count_words(line: Part<'_>) -> usize
     ensures { result ≡ length (words_in line.entry.line line.entry.bytes.now) }
 {
-    let bytes = line.bytes;
-    let mut n = 0;
-    for b in bytes {
-        if *b == b' ' {
-            n += 1;
-        }
-    }
-    n + 1
+    line.bytes.iter().filter(|b| **b == b' ').count() + 1
 }
 
-// The bytes of a word, none where there is no word.
-pub(crate) fn text_of(word: Option<Word<'_>>) -> &[u8]
-    ensures { result.now ≡ text_of (option_map seen_of word.entry) }
-{
-    match word {
-        Some(Word::Name(part)) => part.bytes,
-        Some(Word::Number(part, _)) => part.bytes,
-        None => &[],
-    }
-}
-
-impl<'a> Words<'a> {
+impl<'a> Pieces<'a> {
     // The words of a line.
-    pub(crate) fn new(line: Part<'a>) -> Words<'a>
+    pub(crate) fn words(line: Part<'a>) -> Pieces<'a>
         ensures { words_ahead result ≡ words_in line.entry.line line.entry.bytes.now }
     {
-        Words {
-            bytes: line.bytes,
-            line: line.line,
-            at: 0,
+        Pieces {
+            rest: Some(Part {
+                bytes: line.bytes,
+                line: line.line,
+                byte: 1,
+            }),
+            sep: b' ',
         }
     }
 
-    pub(crate) fn next(&mut self) -> Option<Word<'a>>
-        ensures value { option_map seen_of result ≡ first_of (words_ahead self.old) }
-        ensures after { words_ahead self.new ≡ rest_of (words_ahead self.old) }
+    // The lines of a script, of which the last may lack its LF. An empty script has one line here, with nothing in it.
+    pub(crate) fn lines(script: &'a [u8]) -> Pieces<'a>
+        ensures { pieces_ahead result ≡ lines_or_one script.now }
     {
-        let from = self.at;
-        if from > self.bytes.len() {
-            return None;
+        let bytes = script.strip_suffix(b"\n".as_slice()).unwrap_or(script);
+        Pieces {
+            rest: Some(Part {
+                bytes,
+                line: 1,
+                byte: 1,
+            }),
+            sep: b'\n',
         }
-        let to = find(self.bytes, from, b' ');
-        self.at = to + 1;
-        Some(word(Part {
-            bytes: &self.bytes[from..to],
-            line: self.line,
-            byte: from + 1,
-        }))
     }
 }
 
-impl<'a> Lines<'a> {
-    // The lines of a script.
-    pub(crate) fn new(script: &'a [u8]) -> Lines<'a>
-        ensures { lines_ahead result ≡ lines_in script.now }
-    {
-        Lines {
-            script,
-            line: 1,
-            at: 0,
-        }
-    }
+impl<'a> Iterator for Pieces<'a> {
+    type Item = Part<'a>;
 
-    pub(crate) fn next(&mut self) -> Option<Part<'a>>
-        ensures value { option_map spot_of result ≡ first_of (lines_ahead self.old) }
-        ensures after { lines_ahead self.new ≡ rest_of (lines_ahead self.old) }
-    {
-        let from = self.at;
-        if from >= self.script.len() {
-            return None;
-        }
-        let line = self.line;
-        let to = find(self.script, from, b'\n');
-        self.at = to + 1;
-        self.line = line + 1;
-        Some(Part {
-            bytes: &self.script[from..to],
-            line,
-            byte: 1,
-        })
+    ghost next_gives = { YieldsFirstBy spot_of pieces_ahead };
+
+    ghost remaining = { item_count pieces_ahead };
+
+    fn next(&mut self) -> Option<Part<'a>> {
+        let (first, rest) = cut(self.rest?, self.sep);
+        self.rest = rest;
+        Some(first)
     }
 }

@@ -1,77 +1,77 @@
 // What a start reads from the memory.
-ghost use Rattle.std.specs.Prelude.{◌≡◌, ℕ, ◌+◌, ◌*◌, ◌≤◌, length, take, drop, is_some, if◌then◌else◌, Some, None, slice_index};
-ghost use Rattle.std.specs.Str.{bytes_eq};
-ghost use Rattle.memory.specs.Model.{lines};
-ghost use Rattle.memory.specs.Post.{Formed};
-ghost use Rattle.store.specs.Layout.{lines_used, object_words};
-ghost use Rattle.store.specs.Machine.{contents_fit};
-ghost use Rattle.store.specs.Shown.{index_word};
+ghost use Rattle.std.specs.Prelude.{◌≡◌, ◌+◌, ◌*◌, ◌≤◌, length, IfOk, slice_index};
+ghost use Rattle.machine.specs.Layout.{lines_used};
+ghost use Rattle.machine.specs.Machine.{words_from};
+ghost use Rattle.machine.specs.Calls.{found};
+ghost use Rattle.store.specs.Indices.{index_of};
+ghost use Rattle.store.specs.Found.{workers_found};
+ghost use Rattle.store.specs.Shown.{found_shown};
 
 use super::Store;
 use crate::index::Index;
-use crate::layout;
+use crate::workers::Workers;
+use machine::Refusal;
 use memory::Memory;
 use objects::Object;
 
 // The word as it is now; outside the memory, 0.
-pub(super) fn word<M: Memory>(memory: &M, a: usize) -> u64
-    ensures { result ≡ slice_index (M.conduct.model (M.meaning memory.now)).current a }
+fn word<M: Memory>(memory: &M, at: usize) -> u64
+    ensures { result ≡ slice_index (M.conduct.model (M.meaning memory.now)).current at }
 {
-    if a / 8 >= memory.lines() {
-        return 0;
-    }
-    match memory.read(a) {
-        Ok(w) => w,
-        Err(_) => 0,
-    }
+    // Asked for what it ensures: both images are of one length.
+    let _ = memory.lines();
+    memory.read(at).unwrap_or(0)
 }
 
-// Fills the words with those of the memory, from one on.
-fn read_words<M: Memory>(memory: &M, from: usize, words: &mut [u64])
-    requires { (from + length words.old ≤ length (M.conduct.model (M.meaning memory.now)).current) × (from + length words.old ≤ 512) }
-    ensures { words.new ≡ take (length words.old) (drop from (M.conduct.model (M.meaning memory.now)).current) }
+// The words from one on; outside the memory, zeros.
+fn words<const N: usize, M: Memory>(memory: &M, from: usize) -> [u64; N]
+    requires { from + N ≤ 512 }
+    ensures { result ≡ words_from (M.conduct.model (M.meaning memory.now)).current from N }
 {
-    for i in 0..words.len() {
-        words[i] = word(memory, from + i);
+    let mut words = [0; N];
+    for (i, w) in words.iter_mut().enumerate() {
+        *w = word(memory, from + i);
     }
-}
-
-fn same(xs: &[u64], ys: &[u64]) -> bool
-    ensures { result ≡ bytes_eq xs.now ys.now }
-{
-    xs == ys
+    words
 }
 
 // The number of workers, where line 0 is right for it and the lines are there.
-pub(super) fn workers_there<M: Memory>(memory: &M) -> Option<usize>
-    requires { 14 ≤ lines (M.conduct.model (M.meaning memory.now)) }
-    ensures value { result ≡ (if contents_fit (M.conduct.model (M.meaning memory.now)) then Some (slice_index (M.conduct.model (M.meaning memory.now)).current 2) else None) }
+fn workers_there<M: Memory>(memory: &M) -> Result<Workers, Refusal>
+    ensures value { result ≡ workers_found (M.conduct.model (M.meaning memory.now)) }
+    ensures room { IfOk result (λ n. 8 * lines_used n ≤ length (M.conduct.model (M.meaning memory.now)).current) }
 {
-    let lines = memory.lines();
-    let n = word(memory, 2);
-    if n < 1 || n > 8 {
-        return None;
+    if memory.lines() < 14 {
+        return Err(Refusal::TooFewLines);
     }
-    let workers = n as usize;
-    let mut found = [0; 8];
-    read_words(memory, 0, &mut found);
-    let expected = layout::contents(word(memory, 1), workers);
-    if same(&found, &expected) && layout::lines_used(workers) <= lines {
-        Some(workers)
-    } else {
-        None
+    let workers = Workers::try_from(word(memory, 2)).map_err(|_| Refusal::WrongContents)?;
+    let right = words(memory, 0) == workers.contents(word(memory, 1));
+    if !right || memory.lines() < workers.lines_used() {
+        return Err(Refusal::WrongContents);
     }
+    Ok(workers)
+}
+
+// The record that the index names.
+fn index_there<M: Memory>(memory: &M) -> Result<Index, Refusal>
+    ensures { result ≡ index_of (slice_index (M.conduct.model (M.meaning memory.now)).current 8) }
+{
+    Index::try_from(word(memory, 8))
 }
 
 impl<O: Object, M: Memory> Store<O, M> {
-    // Whether the object part of a record is a picture.
-    pub(super) fn has_picture(&self, workers: usize, record: Index) -> bool
-        requires room { (workers ≤ 8) × (lines_used workers ≤ lines (M.conduct.model (M.meaning self.now.memory))) }
-        requires formed { Formed (M.conduct.model (M.meaning self.now.memory)) }
-        ensures { result ≡ is_some (O.model.reads (object_words (M.conduct.model (M.meaning self.now.memory)).current workers (index_word «record»))) }
+    // What a start finds: the number of workers and the record that the index names.
+    pub(super) fn found(&self) -> Result<(Workers, Index), Refusal>
+        ensures { found_shown result ≡ found O.model (M.conduct.model (M.meaning self.now.memory)) }
     {
-        let mut words = [0; 40];
-        read_words(&self.memory, layout::object_at(workers, record), &mut words);
-        O::from_picture(&words).is_some()
+        let workers = workers_there(&self.memory)?;
+        if word(&self.memory, 1) != O::kind() {
+            return Err(Refusal::WrongKind);
+        }
+        let settled = index_there(&self.memory)?;
+        let picture = words(&self.memory, workers.object_at(settled));
+        if O::from_picture(&picture).is_none() {
+            return Err(Refusal::NoPicture);
+        }
+        Ok((workers, settled))
     }
 }

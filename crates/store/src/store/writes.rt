@@ -1,37 +1,35 @@
 // Rows of calls that a format makes; none is refused where the lines are there.
-ghost use Rattle.std.specs.Prelude.{◌≡◌, ◌+◌, ◌*◌, ◌≤◌, length, replicate};
+ghost use Rattle.std.specs.Prelude.{◌+◌, ◌≤◌, length, replicate};
 ghost use Rattle.memory.specs.Calls.{each_word, each_line};
+ghost use Rattle.machine.specs.Layout.{format_calls};
 ghost use Rattle.memory.specs.Conduct.{after_calls};
-ghost use Rattle.store.specs.Layout.{format_calls};
+ghost use Rattle.memory.specs.Moves.{Moved};
 
-use crate::layout;
+use crate::index::Index;
+use crate::workers::Workers;
 use memory::Memory;
 
 // Writes the words from one on, lowest first.
 fn write_words<M: Memory>(memory: &mut M, from: usize, words: &[u64])
     requires { from + length words.now ≤ 512 }
-    ensures after { M.meaning memory.new ≡ after_calls M.conduct (each_word from words.now) (M.meaning memory.old) }
-    ensures lent { M.frame memory.new ≡ M.frame memory.old }
+    ensures { Moved M.meaning M.frame (after_calls M.conduct (each_word from words.now)) memory.old memory.new }
 {
-    for i in 0..words.len() {
-        let _ = memory.write(from + i, words[i]);
+    for (i, value) in words.iter().enumerate() {
+        let _ = memory.write(from + i, *value);
     }
 }
 
+// Writes that many zeros from one on.
 fn write_zeros<M: Memory>(memory: &mut M, from: usize, count: usize)
-    requires { from + count ≤ 512 }
-    ensures after { M.meaning memory.new ≡ after_calls M.conduct (each_word from (replicate count 0)) (M.meaning memory.old) }
-    ensures lent { M.frame memory.new ≡ M.frame memory.old }
+    requires { (from + count ≤ 512) × (count ≤ 104) }
+    ensures { Moved M.meaning M.frame (after_calls M.conduct (each_word from (replicate count 0))) memory.old memory.new }
 {
-    for i in 0..count {
-        let _ = memory.write(from + i, 0);
-    }
+    write_words(memory, from, &[0; 104][..count]);
 }
 
 // Asks for the first lines, lowest first.
 fn ask_lines<M: Memory>(memory: &mut M, count: usize)
-    ensures after { M.meaning memory.new ≡ after_calls M.conduct (each_line 0 count) (M.meaning memory.old) }
-    ensures lent { M.frame memory.new ≡ M.frame memory.old }
+    ensures { Moved M.meaning M.frame (after_calls M.conduct (each_line 0 count)) memory.old memory.new }
 {
     for line in 0..count {
         let _ = memory.ask(line);
@@ -43,18 +41,16 @@ pub(super) fn write_format<M: Memory>(
     memory: &mut M,
     kind: u64,
     picture: &[u64; 40],
-    workers: usize,
+    workers: Workers,
 )
-    requires { workers ≤ 8 }
-    ensures after { M.meaning memory.new ≡ after_calls M.conduct (format_calls kind picture.now workers) (M.meaning memory.old) }
-    ensures lent { M.frame memory.new ≡ M.frame memory.old }
+    ensures { Moved M.meaning M.frame (after_calls M.conduct (format_calls kind picture.now workers)) memory.old memory.new }
 {
-    let record = 16 + 8 * workers;
-    write_words(memory, 0, &layout::contents(kind, workers));
-    write_zeros(memory, 8, 8);
-    write_zeros(memory, 16, 8 * workers);
-    write_words(memory, record, picture);
-    write_zeros(memory, record + 40, 8 * (workers + 5));
-    ask_lines(memory, layout::lines_used(workers));
+    let lines = workers.lines_used();
+    let object = workers.object_at(Index::Zero);
+    write_words(memory, 0, &workers.contents(kind));
+    write_zeros(memory, 8, object - 8);
+    write_words(memory, object, picture);
+    write_zeros(memory, object + 40, 8 * lines - (object + 40));
+    ask_lines(memory, lines);
     memory.sync();
 }

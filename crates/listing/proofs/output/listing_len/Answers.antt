@@ -1,5 +1,5 @@
 -- The length of a listing, line by line, and where it passes the limit.
-use Rattle.std.proofs.Common.{◌≡◌, ◌<◌, length, drop, arith}
+use Rattle.std.proofs.Common.{◌≡◌, ◌<◌, length, drop, ap, arith}
 use Rattle.std.proofs.lemmas.List.{at_drop_all}
 use Rattle.std.proofs.lemmas.Bool.Decides.{nat_tests}
 use Rattle.listing.specs.Texts.{listing_text}
@@ -9,13 +9,13 @@ use Rattle.listing.proofs.output.listing_len.Goals as goal
 pub returns-then-n-most : goal.returns-then-n-most
 returns-then-n-most c =
     let e = next-len c.args.outcomes.now c.loop-o.o-index c.loop-o-test.true in
-    let over : c.args.most < length (listing_text c.args.outcomes.now) = omega (arith, e, c.line_len-n.ensures, c.loop-o.invariant.0, c.loop-o.invariant.1, c.if-n-most.true) in
+    let over : c.args.most < length (listing_text c.args.outcomes.now) = omega (arith, e, ap length c.line_of.ensures, c.len-n.ensures, c.loop-o.invariant.0, c.loop-o.invariant.1, c.if-n-most.true) in
     grind (arith, nat_tests)
 
 pub loop-o-preserved : goal.loop-o-preserved
 loop-o-preserved c =
     let e = next-len c.args.outcomes.now c.loop-o.o-index c.loop-o-test.true in
-    (omega (arith, e, c.line_len-n.ensures, c.loop-o.invariant.0), omega (arith, c.loop-o.invariant.1, c.if-n-most.false))
+    (omega (arith, e, ap length c.line_of.ensures, c.len-n.ensures, c.loop-o.invariant.0), omega (arith, c.loop-o.invariant.1, c.if-n-most.false))
 
 pub returns : goal.returns
 returns c =

@@ -7,6 +7,6 @@ use Rattle.memory.proofs.lazy.calls.store_word.Goals as goal
 
 pub returns-clause-after : goal.returns-clause-after
 returns-clause-after c =
-    let e = c.store.ensures.lent ∙ c.new-module.ensures.lent in
-    let k = ap (λ (n : MemoryModel). n.kept) (c.store.ensures.after ∙ ap (stores c.args.word c.args.value) c.new-module.ensures.after) in
+    let e = c.store.ensures.moved.lent ∙ c.new-module.ensures.lent in
+    let k = ap (λ (n : MemoryModel). n.kept) (c.store.ensures.moved.after ∙ ap (stores c.args.word c.args.value) c.new-module.ensures.after) in
     search (rules, stored_back)

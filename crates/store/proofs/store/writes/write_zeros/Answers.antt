@@ -1,9 +1,12 @@
-use Rattle.std.proofs.Common.{◌∙◌, arith}
-use Rattle.memory.proofs.Rows.{zeros_step}
+use Rattle.std.proofs.Common.{ℕ, List, ap, ◌∙◌}
+use Rattle.std.proofs.lemmas.List.{take-replicate}
+use Rattle.memory.specs.Calls.{each_word}
+use Rattle.memory.specs.Conduct.{after_calls}
 use Rattle.store.proofs.store.writes.write_zeros.Goals as goal
 
-pub loop-i-preserved : goal.loop-i-preserved
-loop-i-preserved g c = (
-  zeros_step g.M.Memory.conduct c.args.from c.loop-i.i c.args.count (g.M.Memory.meaning c.loop-i.memory) _ (omega arith) c.write.ensures.after ∙ c.loop-i.invariant.0,
-  c.write.ensures.lent ∙ c.loop-i.invariant.1,
-)
+pub returns : goal.returns
+returns g c = record {
+  after = c.write_words.ensures.after
+      ∙ ap (λ (ws : List ℕ). after_calls g.M.Memory.conduct (each_word c.args.from ws) (g.M.Memory.meaning c.args.memory.now)) (take-replicate c.args.count 104 0 c.requires.1);
+  lent = c.write_words.ensures.lent;
+}

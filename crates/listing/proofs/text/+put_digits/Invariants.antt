@@ -1,5 +1,0 @@
--- `put_digits` ends: the number falls to its tenth.
-use Rattle.listing.proofs.text.+put_digits.Given as goal
-
-abbrev pub decreases-put_digits : goal.decreases-put_digits
-decreases-put_digits l = l.n
