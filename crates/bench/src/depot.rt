@@ -25,6 +25,7 @@ impl Run<'_> {
         ensures { Written (run_text O.model M.conduct (M.meaning memory) self.entry.calls.now) out.old out.new result }
     {
         let mut store: Store<O, M> = Store::over(memory);
+        // Lent memory for the list, by a rule of the project; what it holds at first is of no matter.
         let mut list = [Outcome::Done(Verb::Start); 512];
         let mut outcomes = Bounded::new(&mut list);
         run_calls(&mut store, self.calls, &mut outcomes);
@@ -57,6 +58,7 @@ impl Run<'_> {
 pub fn depot_run(script: &[u8], out: &mut [u8]) -> Result<usize, NoRoom>
     ensures { Written (script_text script.now) out.old out.new result }
 {
+    // Lent memory, as above.
     let mut list = [Call::Start; 512];
     let mut read = Bounded::new(&mut list);
     match script::read_script(script, &mut read) {

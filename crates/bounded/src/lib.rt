@@ -6,8 +6,10 @@ ghost use Rattle.std.specs.Prelude.{◌≤◌, length};
 mod ops;
 #[cfg(test)]
 mod tests;
+mod text;
 
-// A buffer with a length beside it, since the project has no heap: the caller lends the memory.
+// A buffer with a length beside it, since the project has no heap: the caller lends the memory, of any size. A vector
+// with fixed room, as the crate arrayvec has, would fix the room in the type.
 // It has no Model, since its caller would then not learn what the memory holds when the list is let go.
 #[derive(Drop)]
 pub struct Bounded<'a, T> {

@@ -36,7 +36,8 @@ impl<'a, T> Bounded<'a, T> {
 }
 
 impl<T: Copy> Bounded<'_, T> {
-    // One entry more, where the memory has room for it.
+    // One entry more, where the memory has room for it. `self.extend(&[x])` was tried, and its proof did not
+    // close: an array of one `T` asks of the caller that a `T` has fewer than 2^63 bytes.
     pub fn push(&mut self, x: T) -> Result<(), Full>
         ensures reply { result ≡ answered (held self.old) (x ∷ []) }
         ensures after { held self.new ≡ added (held self.old) (x ∷ []) }

@@ -1,6 +1,6 @@
 -- A listing, one line after another.
-use Rattle.std.proofs.Common.{◌≡◌, ℕ, ◌+◌, ◌<◌, ◌≤◌, List, ◌++◌, length, get_or, drop, Ok, ap, ◌∙◌, arith}
-use Rattle.std.proofs.lemmas.List.{at_drop_more, length-append}
+use Rattle.std.proofs.Common.{◌≡◌, ℕ, ◌+◌, ◌<◌, ◌≤◌, List, ◌++◌, length, get_or, drop, Ok, arith}
+use Rattle.std.proofs.lemmas.List.{at_drop_more}
 use Rattle.std.proofs.lemmas.Bool.Decides.{nat_tests}
 use Rattle.script.specs.declared.call.Verb.TheVariants.{Format}
 use Rattle.listing.specs.declared.outcome.Outcome.{Outcome}
@@ -14,9 +14,6 @@ line os i = line_text (get_or os i (Done Format))
 
 pub next-line : (os : List Outcome) (i : ℕ) → i < length os → listing_text (drop i os) ≡ line os i ++ listing_text (drop (i + 1) os)
 next-line os i h = at_drop_more listing_text os i (Done Format) h
-
-pub next-len : (os : List Outcome) (i : ℕ) → i < length os → length (listing_text (drop i os)) ≡ length (line os i) + length (listing_text (drop (i + 1) os))
-next-len os i h = ap length (next-line os i h) ∙ length-append (line os i) (listing_text (drop (i + 1) os))
 
 -- a length that was found is the length, and fits
 pub sized_fits : (text : List ℕ) (most n : ℕ) → Ok n ≡ sized text most → (length text ≤ most) × (n ≡ length text)

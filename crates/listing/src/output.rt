@@ -1,29 +1,43 @@
 // A listing or a fault at the start of the caller's buffer.
-ghost use Rattle.std.specs.Prelude.{◌≡◌};
+ghost use Rattle.std.specs.Prelude.{◌≡◌, Some};
 ghost use Rattle.listing.specs.Texts.{listing_text, fault_text};
-ghost use Rattle.listing.specs.Buffers.{sized, Written};
+ghost use Rattle.listing.specs.Buffers.{sized, left_of, Written, no_room_text};
 
 use crate::outcome::Outcome;
 use crate::text::{fault_line, line_of};
 use bounded::Bounded;
+use std::error::Error;
+use std::fmt;
 
 // The answer where the text does not fit.
 #[derive(Clone, Copy, Debug, PartialEq, Eq)]
 pub struct NoRoom;
 
-// How long the listing is, where that is at most `most`. A fold is no plainer: the sum stops at the line that passes it.
+impl fmt::Display for NoRoom {
+    ghost output = { λ no_room. Some (no_room_text no_room) };
+
+    fn fmt<W: fmt::Write>(&self, f: &mut fmt::Formatter<W>) -> fmt::Result {
+        f.write_str("the text does not fit")
+    }
+}
+
+impl Error for NoRoom {}
+
+// What the lines of the listing leave of `most`, where they fit in it.
+fn room_left(outcomes: &[Outcome], most: usize) -> Option<usize>
+    ensures { result ≡ left_of most (listing_text outcomes.now) }
+{
+    outcomes
+        .iter()
+        .try_fold(most, |left, o| left.checked_sub(line_of(*o).len()))
+}
+
+// How long the listing is, where that is at most `most`.
 fn listing_len(outcomes: &[Outcome], most: usize) -> Result<usize, NoRoom>
     ensures { result ≡ sized (listing_text outcomes.now) most }
 {
-    let mut total = 0;
-    for o in outcomes {
-        let n = line_of(*o).len();
-        if n > most - total {
-            return Err(NoRoom);
-        }
-        total += n;
-    }
-    Ok(total)
+    let left = room_left(outcomes, most).ok_or(NoRoom)?;
+    Ok(most - left)
 }
 
 // The listing at the start of `out`, which stays as it was where that does not fit.

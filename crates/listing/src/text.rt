@@ -1,26 +1,16 @@
 // The text of one line.
 ghost use Rattle.std.specs.Prelude.{◌≡◌, ◌+◌, ◌≤◌, ◌++◌, decimal};
 ghost use Rattle.arrayvec.specs.ArrayString.{array_string_len};
-ghost use Rattle.listing.specs.Texts.{layer_text, line_text, fault_text};
+ghost use Rattle.listing.specs.Texts.{line_text, fault_text};
 
 use crate::outcome::Outcome;
 use arrayvec::ArrayString;
 use itoa::Buffer;
-use machine::Layer;
 use script::Named;
 
 // Room for the longest line with its end, which is a fault's. Lines are pushed piece by piece: a Display says its text
 // only where the writer answers Ok, and it could not be proved that a text with room does.
 pub(crate) type Line = ArrayString<79>;
-
-fn layer_name(layer: Layer) -> &'static str
-    ensures { result.now ≡ layer_text layer }
-{
-    match layer {
-        Layer::Store => "store",
-        Layer::Module => "module",
-    }
-}
 
 // A number has at most 20 digits.
 fn push_number(line: &mut Line, n: u64)
@@ -45,7 +35,7 @@ pub(crate) fn line_of(outcome: Outcome) -> Line
             line.push_str("refused ");
             push_number(&mut line, refused.number);
             line.push_str(" ");
-            line.push_str(layer_name(refused.layer));
+            line.push_str(refused.layer.name());
         }
     }
     line.push_str("\n");

@@ -1,5 +1,5 @@
--- The number of each answer of a step; the number and the layer of each refusal.
-use Rattle.std.specs.Prelude.{ℕ}
+-- The number of each answer of a step; the number, the layer and the text of each refusal.
+use Rattle.std.specs.Prelude.{ℕ, List, ◌++◌, codes, decimal}
 use Rattle.memory.specs.declared.refusal.Refusal.TheVariants.{Outside, NotAllowed}
 use Rattle.machine.specs.declared.steps.StepAnswer.{StepAnswer}
 use Rattle.machine.specs.declared.steps.StepAnswer.TheVariants.{TookLock, Watches, LineLoaded, Served, LineKept, LineStored, LineAsked, RecordFenced, IndexFlipped, IndexAsked, IndexSynced, LockLeft, AnswerFound, GoesAgain}
@@ -53,3 +53,14 @@ refusal_number r = (question r).0
 
 abbrev pub refusal_layer : Refusal → Layer
 refusal_layer r = (question r).1
+
+abbrev pub layer_name : Layer → List ℕ
+layer_name Store = codes "store"
+layer_name Module = codes "module"
+
+-- how a refusal reads, by its number and layer
+abbrev pub refused_words : ℕ → Layer → List ℕ
+refused_words n l = codes "refused " ++ (decimal n ++ (codes " " ++ layer_name l))
+
+abbrev pub refusal_text : Refusal → List ℕ
+refusal_text r = refused_words (refusal_number r) (refusal_layer r)

@@ -1,4 +1,4 @@
-// The two words that answer a request: numbers, and no Result, since they are words of the memory by a rule of the project.
+// The two words that answer a request. Numbers, and no Result: a worker line of the memory holds them as words.
 #[derive(Clone, Copy, Debug, PartialEq, Eq)]
 pub struct Answer {
     pub code: u64,

@@ -48,13 +48,6 @@ copied_step s i new old m = is_copied s new old _ (length-copied (minus s (2 ^ i
     ∙ ap (λ x. cond (mem (minus s (2 ^ i)) (a / 8)) (get_or new a 0) x) (get_or-copied (2 ^ i) new old a h ∙ ap (λ b. cond b (get_or new a 0) (get_or old a 0)) (mem-pow i (a / 8)))
     ∙ step_place s i (a / 8) (get_or new a 0) (get_or old a 0) m)
 
--- the front of a copy is the copy of the fronts
-pub take-copied : (n s : ℕ) (new old : List ℕ) → n ≤ length old → take n (copied s new old) ≡ copied s (take n new) (take n old)
-take-copied n s new old h = is_copied s (take n new) (take n old) _ (simp (length-take, length-copied))
-    (λ a k. let l : a < n = omega (arith, length-take n old) in let q : a < length old = omega arith in
-    get_or-take n (copied s new old) a 0 l ∙ get_or-copied s new old a q
-    ∙ rw (get_or-take n new a 0 l, get_or-take n old a 0 l))
-
 -- what lies past the lines of a set stays
 pub drop-copied : (n s : ℕ) (new old : List ℕ) → s < 2 ^ n → drop (8 * n) (copied s new old) ≡ drop (8 * n) old
 drop-copied n s new old h = ext_get_or 0 _ _ (simp (length-drop, length-copied))

@@ -1,5 +1,5 @@
 -- Rows of calls, one after another.
-use Rattle.std.proofs.Common.{◌≡◌, ℕ, suc, ◌+◌, ◌-◌, ◌<◌, List, [], ◌∷◌, ◌++◌, length, get_or, drop, replicate, sym, refl, ap, ◌∙◌, arith}
+use Rattle.std.proofs.Common.{◌≡◌, ℕ, suc, ◌+◌, ◌-◌, ◌<◌, List, [], ◌∷◌, ◌++◌, length, get_or, drop, sym, refl, ap, ◌∙◌, arith}
 use Rattle.std.proofs.lemmas.List.{drop_more}
 use Rattle.memory.specs.Calls.{Call, writes, asks, each_word, each_line}
 use Rattle.memory.specs.Conduct.{Conduct, after_call, after_calls}
@@ -25,15 +25,6 @@ words_step C from i ws s t h e =
     ap (λ b. after_calls C (each_word b (drop (i + 1) ws)) t) a
     ∙ ap (λ x. after_calls C (each_word (from + i + 1) (drop (i + 1) ws)) x) e
     ∙ ap (λ vs. after_calls C (each_word (from + i) vs) s) (sym (drop_more ws i 0 h))
-
-pub zeros_step : (C : Conduct) (from i n : ℕ) (s t : C.State) → i < n → t ≡ after_call C (writes (from + i) 0) s
-    → after_calls C (each_word (from + (i + 1)) (replicate (n - (i + 1)) 0)) t ≡ after_calls C (each_word (from + i) (replicate (n - i) 0)) s
-zeros_step C from i n s t h e =
-    let a : from + (i + 1) ≡ from + i + 1 = omega arith in
-    let k : suc (n - (i + 1)) ≡ n - i = omega arith in
-    ap (λ b. after_calls C (each_word b (replicate (n - (i + 1)) 0)) t) a
-    ∙ ap (λ x. after_calls C (each_word (from + i + 1) (replicate (n - (i + 1)) 0)) x) e
-    ∙ ap (λ j. after_calls C (each_word (from + i) (replicate j 0)) s) k
 
 pub lines_step : (C : Conduct) (i n : ℕ) (s t : C.State) → i < n → t ≡ after_call C (asks i) s
     → after_calls C (each_line (i + 1) (n - (i + 1))) t ≡ after_calls C (each_line i (n - i)) s

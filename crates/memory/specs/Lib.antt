@@ -2,6 +2,7 @@
 pub mod Sets
 pub mod Model
 pub mod Post
+pub mod Refusals
 pub mod Calls
 pub mod Conduct
 pub mod Held

@@ -1,6 +1,7 @@
 // Sets of lines as 64-bit numbers, and copying the lines of a set.
-ghost use Rattle.std.specs.Prelude.{◌≡◌, ◌+◌, ◌-◌, ◌*◌, ◌^◌, ◌<◌, ◌≤◌, ℕ, true, length, IfSome, IfNone, bit_and, count_ones, ◌==◌};
-ghost use Rattle.memory.specs.Sets.{mem, minus, with_line};
+ghost use Rattle.std.specs.Prelude.{◌≡◌, ◌+◌, ◌-◌, ◌*◌, ◌^◌, ◌≤◌, ℕ, true, length, bit_and, count_ones, ◌==◌};
+ghost use Rattle.std.specs.Iterator.{at_most};
+ghost use Rattle.memory.specs.Sets.{mem, minus, with_line, GivesLine};
 ghost use Rattle.memory.specs.Held.{line_count};
 ghost use Rattle.memory.specs.Model.{copied};
 
@@ -97,14 +98,18 @@ impl LineSet {
             bits: self.bits & other.bits,
         }
     }
+}
 
-    // Takes out the lowest line.
-    #[tactic(auto, using(crate::proofs::Bits::mem_first, crate::proofs::Bits::first_below))]
-    pub(crate) fn take_first(&mut self) -> Option<Line>
-        ensures line { IfSome result (λ i. mem self.old i ≡ true) }
-        ensures left { IfSome result (λ i. self.new ≡ minus self.old (2 ^ i)) }
-        ensures none { IfNone result (self.old ≡ 0) }
-    {
+// The lines of the set, the lowest first; each is taken out as it is given.
+impl Iterator for LineSet {
+    type Item = Line;
+
+    ghost next_gives = { GivesLine };
+
+    ghost remaining = { λ s. at_most s };
+
+    #[tactic(auto, using(crate::proofs::Bits::mem_first, crate::proofs::Bits::first_below, crate::proofs::Bits::minus_falls))]
+    fn next(&mut self) -> Option<Line> {
         if self.is_empty() {
             return None;
         }
@@ -131,8 +136,7 @@ pub(crate) fn copy_lines(set: LineSet, from: &[u64], to: &mut [u64])
     requires { (i : ℕ) → mem set i ≡ true → (8 * i + 8 ≤ length from.now) × (8 * i + 8 ≤ length to.old) }
     ensures { to.new ≡ copied set from.now to.old }
 {
-    let mut left = set;
-    while let Some(line) = left.take_first() {
+    for line in set {
         copy_line(line, from, to);
     }
 }

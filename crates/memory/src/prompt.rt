@@ -63,8 +63,7 @@ impl Memory for Prompt<'_> {
     fn sync(&mut self) {}
 
     fn arrive(&mut self, line: usize) -> Result<(), Refusal> {
-        Line::of(self.words.len(), line)?;
-        Ok(())
+        self.ask(line)
     }
 
     fn cut(&mut self) {}

@@ -40,7 +40,7 @@ sound {place} {first} {rest} one = record { entry = entry; fewer = fewer }
     fewer : (xs : List ℕ) → length (rest xs) ≤ length xs
     fewer xs = rw (one.others xs) (simp (length-append, length-take, length-drop) (omega arith))
 
-module _ {place : Place} {first : First} {rest : Rest} (one : OneAt place first rest) (s : Entries) (o : Operation) where
+module _ (first : First) (rest : Rest) (ok : Sound first rest) (s : Entries) (o : Operation) where
   abbrev Made : Type 0
   Made = Makes first rest s.items (deed_when o (answer_of first s o.op)) (held_after rest s o.op o.arg).items
 
@@ -58,9 +58,9 @@ module _ {place : Place} {first : First} {rest : Rest} (one : OneAt place first 
 
   made_by_take : nat_eq o.op 1 ≡ false → (o.op == 2) ≡ true → Made
   made_by_take not-put is-take =
-      elim ((sound one).entry s.items) [
+      elim (ok.entry s.items) [
         | inl e ↦ (let w = whole in let a = e.0 in let r = e.1 in simp (not-put, is-take, a, r, w) same)
-        | inr e ↦ (let fits : take 32 (rest s.items) ≡ rest s.items = take_all 32 (rest s.items) (omega (arith, (sound one).fewer s.items, s.few)) in
+        | inr e ↦ (let fits : take 32 (rest s.items) ≡ rest s.items = take_all 32 (rest s.items) (omega (arith, ok.fewer s.items, s.few)) in
             let a = e.1 in
             simp (not-put, is-take, a) (rw fits (given e.0 a)))
       ]

@@ -5,7 +5,7 @@ use Rattle.std.proofs.lemmas.List.{append-nil}
 use Rattle.objects.specs.Rows.{Entries, oldest, but_oldest, queue_model}
 use Rattle.objects.specs.Places.{oldest_at}
 use Rattle.objects.specs.Laws.{Operation, Event, Deed, word_in, word_out, put_in, given_out, deed_of, events, after_run, QueueLaw}
-use Rattle.objects.specs.Deeds.{Makes, put, given, same, made}
+use Rattle.objects.specs.Deeds.{Makes, put, given, same, sound, made}
 
 oldest-ahead : (xs : List ℕ) (x : ℕ) → oldest xs ≡ Ok x → xs ≡ x ∷ but_oldest xs
 oldest-ahead [] x h = cc
@@ -23,7 +23,7 @@ in_order (o ∷ os) s =
     let e : Event = record { operation = o; answer = queue_model.answer s o.op o.arg } in
     let t : Entries = queue_model.next s o.op o.arg in
     let d : Deed = deed_of e in
-    let step : s.items ++ word_in d ≡ word_out d ++ t.items = one (made oldest_at s o) in
+    let step : s.items ++ word_in d ≡ word_out d ++ t.items = one (made oldest but_oldest (sound oldest_at) s o) in
     let more = in_order os t in
     let ins = put_in (events queue_model t os) in
     sym (append_assoc s.items (word_in d) ins)

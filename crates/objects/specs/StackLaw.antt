@@ -6,7 +6,7 @@ use Rattle.std.proofs.lemmas.Bool.{ne_eqb}
 use Rattle.objects.specs.Rows.{Entries, newest, but_newest, stack_model}
 use Rattle.objects.specs.Places.{newest_at}
 use Rattle.objects.specs.Laws.{Operation, Event, Deed, gives, deed_of, events, after_run, Balanced, nothing, idle, one_after_another, put_and_given, Leaves, balanced, then_put, StackLaw}
-use Rattle.objects.specs.Deeds.{Makes, put, given, same, made}
+use Rattle.objects.specs.Deeds.{Makes, put, given, same, sound, made}
 
 -- the newest of entries is the last
 module _ (xs : List ℕ) (x : ℕ) where
@@ -47,7 +47,7 @@ latest [] s past l = rw append-nil l
 latest (o ∷ os) s past l =
     let e : Event = record { operation = o; answer = stack_model.answer s o.op o.arg } in
     let t : Entries = stack_model.next s o.op o.arg in
-    let more = latest os t (past ++ (e ∷ [])) (one e refl l (made newest_at s o)) in
+    let more = latest os t (past ++ (e ∷ [])) (one e refl l (made newest but_newest (sound newest_at) s o)) in
     rw (append_assoc past (e ∷ []) (events stack_model t os)) at more
 
 pub stack_law : StackLaw

@@ -7,6 +7,7 @@ ghost use Rattle.objects.specs.QueueLaw.{queue_law};
 ghost use Rattle.objects.specs.StackLaw.{stack_law};
 
 pub trait End: Copy {
+    // the kind of an object with this end, which is a word of the memory and so a number
     ghost KIND: { ℕ };
 
     const KIND: u64;

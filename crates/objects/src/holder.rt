@@ -10,6 +10,7 @@ use crate::op::Op;
 use crate::row::Row;
 use std::marker::PhantomData;
 
+// No `==`, since a row has none.
 #[derive(Clone, Copy, Debug)]
 pub struct Holder<E: End> {
     row: Row,

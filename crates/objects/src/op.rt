@@ -5,9 +5,9 @@ use crate::answer::Denied;
 
 #[derive(Clone, Copy, Debug, PartialEq, Eq)]
 pub enum Op {
-    Put,
-    Take,
-    Look,
+    Put = 1,
+    Take = 2,
+    Look = 3,
 }
 
 impl TryFrom<u64> for Op {

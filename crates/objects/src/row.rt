@@ -3,8 +3,9 @@ mod ops;
 
 ghost use Rattle.std.specs.Prelude.{◌≡◌, ◌≤◌, length};
 
-// An array with a count, and no Vec: an object is copied, and there is no heap. It has no Model as its entries, since a copy
-// needs the words past the count, which they do not give back.
+// An array with a count, and no Vec: an object is copied, there is no heap, and a vector of fixed room, as that of `arrayvec`,
+// is not Copy. It has no Model as its entries, since a copy needs the words past the count, which they do not give back; and
+// no `==`, which would compare those words too.
 #[derive(Clone, Copy, Debug)]
 pub struct Row {
     items: [u64; 32],

@@ -1,6 +1,9 @@
 // What can be wrong with a script, and where.
-ghost use Rattle.std.specs.Prelude.{◌≡◌};
-ghost use Rattle.script.specs.Faults.{fault_number, at_line};
+ghost use Rattle.std.specs.Prelude.{◌≡◌, Some};
+ghost use Rattle.script.specs.Faults.{fault_number, at_line, text_of_fault};
+
+use std::error::Error;
+use std::fmt;
 
 #[derive(Clone, Copy, Debug, PartialEq, Eq)]
 pub enum FaultKind {
@@ -38,3 +41,19 @@ impl FaultKind {
         }
     }
 }
+
+impl fmt::Display for Fault {
+    ghost output = { λ fault. Some (text_of_fault fault) };
+
+    fn fmt<W: fmt::Write>(&self, f: &mut fmt::Formatter<W>) -> fmt::Result {
+        write!(
+            f,
+            "fault {} line {} byte {}",
+            self.kind.number(),
+            self.line,
+            self.byte
+        )
+    }
+}
+
+impl Error for Fault {}

@@ -6,7 +6,7 @@ mod read;
 pub(crate) use read::{count_words, next_word};
 
 // A part of the script, with the line and the byte in that line at which it begins, both counted from 1.
-#[derive(Clone, Copy)]
+#[derive(Clone, Copy, Debug, PartialEq, Eq)]
 pub(crate) struct Part<'a> {
     pub(crate) bytes: &'a [u8],
     pub(crate) line: usize,
@@ -16,7 +16,7 @@ pub(crate) struct Part<'a> {
 }
 
 // A word as the script has it, with the number that it writes, if it writes one. Both cases keep their place in the script, as the project wants.
-#[derive(Clone, Copy)]
+#[derive(Clone, Copy, Debug, PartialEq, Eq)]
 pub(crate) enum Word<'a> {
     Name(Part<'a>),
     Number(Part<'a>, u64),

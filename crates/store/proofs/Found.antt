@@ -2,7 +2,7 @@
 use Rattle.std.proofs.Common.{◌≡◌, ℕ, ◌+◌, ◌*◌, ◌<◌, ◌≤◌, Bool, true, cond, Some, None, Ok, Err, Option, Result, List, length, is_some, sym, refl, ap, ◌∙◌, inl, inr, arith}
 use Rattle.std.specs.Prelude.{nat_le, nat_lt, nat_eq, slice_index}
 use Rattle.std.specs.Option.{option_map}
-use Rattle.std.proofs.lemmas.Bool.{cases_Bool, cond-true, cond-false, eq-eqb, eqb-true}
+use Rattle.std.proofs.lemmas.Bool.{cases_Bool, ltb-true, cond-true, cond-false, eq-eqb, eqb-true}
 use Rattle.memory.specs.Model.{MemoryModel, lines}
 use Rattle.objects.specs.Model.{ObjectModel}
 use Rattle.machine.specs.declared.refusal.Refusal.{Refusal}
@@ -26,8 +26,7 @@ word_found (Ok i) = index_word i
 word_found (Err k) = 2
 
 few : (i : Index) → index_word i < 2
-few Zero = omega arith
-few One = omega arith
+few i = ltb-true (index_word i) 2 (below_two i)
 
 index_is : (w : ℕ) (i : Index) → index_of w ≡ Ok i → w ≡ index_word i
 index_is w i e =

@@ -1,13 +1,10 @@
 // Which of the two records is settled.
-ghost use Rattle.std.specs.Prelude.{if◌then◌else◌, nat_lt};
-ghost use Rattle.machine.specs.declared.refusal.Refusal.TheVariants.{WrongIndex};
-
 use machine::Refusal;
 
 #[derive(Clone, Copy, Debug, PartialEq, Eq)]
 pub(crate) enum Index {
-    Zero,
-    One,
+    Zero = 0,
+    One = 1,
 }
 
 impl TryFrom<u64> for Index {

@@ -1,9 +1,22 @@
-// The number and the layer of a refusal.
-ghost use Rattle.std.specs.Prelude.{◌≡◌};
-ghost use Rattle.machine.specs.Numbers.{refusal_number, refusal_layer};
+// The number and the layer of a refusal, and how they read.
+ghost use Rattle.std.specs.Prelude.{◌≡◌, Some};
+ghost use Rattle.machine.specs.Numbers.{refusal_number, refusal_layer, layer_name, refusal_text};
 
 use super::{Layer, Refusal};
 use memory::Refusal as MemoryRefusal;
+use std::error::Error;
+use std::fmt;
+
+impl Layer {
+    pub fn name(self) -> &'static str
+        ensures { result.now ≡ layer_name self }
+    {
+        match self {
+            Layer::Store => "store",
+            Layer::Module => "module",
+        }
+    }
+}
 
 impl Refusal {
     // By a table, since a variant that carries a value has no number of its own.
@@ -44,3 +57,13 @@ impl Refusal {
         }
     }
 }
+
+impl fmt::Display for Refusal {
+    ghost output = { λ refusal. Some (refusal_text refusal) };
+
+    fn fmt<W: fmt::Write>(&self, f: &mut fmt::Formatter<W>) -> fmt::Result {
+        write!(f, "refused {} {}", self.number(), self.layer().name())
+    }
+}
+
+impl Error for Refusal {}

@@ -1,5 +1,5 @@
 // The calls of the lazy memory module.
-ghost use Rattle.std.specs.Prelude.{◌≡◌, ◌*◌, ◌/◌, ◌<◌, length, if◌then◌else◌, slice_index, slice_set};
+ghost use Rattle.std.specs.Prelude.{◌≡◌, ◌*◌, ◌/◌, ◌<◌, length, if◌then◌else◌, slice_set};
 ghost use Rattle.memory.specs.Model.{arrivals, way, write};
 ghost use Rattle.memory.specs.Post.{inside_word, stores};
 ghost use Rattle.memory.specs.Calls.{reply, writes};

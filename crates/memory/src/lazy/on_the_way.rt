@@ -1,5 +1,5 @@
 // The lines that are on their way to a lazy memory module: asked, due and late.
-ghost use Rattle.std.specs.Prelude.{◌≡◌, ℕ, not, ◌||◌, if◌then◌else◌, ◌==◌, count_ones};
+ghost use Rattle.std.specs.Prelude.{◌≡◌, not, ◌||◌, if◌then◌else◌, ◌==◌, count_ones};
 ghost use Rattle.memory.specs.Sets.{mem, minus, with_line};
 
 use crate::counts::Counts;

@@ -19,7 +19,7 @@ fn write_words<M: Memory>(memory: &mut M, from: usize, words: &[u64])
     }
 }
 
-// Writes that many zeros from one on.
+// Writes that many zeros from one on; 104 words, a record of eight workers, are the most at once.
 fn write_zeros<M: Memory>(memory: &mut M, from: usize, count: usize)
     requires { (from + count ≤ 512) × (count ≤ 104) }
     ensures { Moved M.meaning M.frame (after_calls M.conduct (each_word from (replicate count 0))) memory.old memory.new }
