@@ -2,7 +2,7 @@
 use machine::{Layer, Refusal};
 use script::Verb;
 
-// A number, and no enum, by a rule of the project: the listing shows refusals of any layer.
+// A number, and no enum, by a rule of the project: a listing shows the number as it is, of any layer.
 #[derive(Clone, Copy, Debug, PartialEq, Eq)]
 pub struct Refused {
     pub number: u64,
@@ -22,7 +22,8 @@ impl From<Refusal> for Refused {
     }
 }
 
-// One enum, and no Result, by a rule of the project: a case for each kind of outcome, of which a refusal is one.
+// One enum, and no Result, by a rule of the project: to a listing a refusal is an outcome like the others, and never an
+// error to hand on.
 #[derive(Clone, Copy, Debug, PartialEq, Eq)]
 pub enum Outcome {
     // a call that answers nothing but that it was done
