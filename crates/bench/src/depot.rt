@@ -1,5 +1,5 @@
 // The function for other programs: script bytes in, the listing or the fault out.
-ghost use Rattle.std.specs.Prelude.{◌≡◌, ◌≤◌, length};
+ghost use Rattle.std.specs.Prelude.{◌≤◌, length};
 ghost use Rattle.listing.specs.Buffers.{Written};
 ghost use Rattle.bench.specs.Scripts.{run_text, text_on, model_of, script_text};
 
@@ -25,7 +25,7 @@ impl Run<'_> {
         ensures { Written (run_text O.model M.conduct (M.meaning memory) self.entry.calls.now) out.old out.new result }
     {
         let mut store: Store<O, M> = Store::over(memory);
-        // Lent memory for the list, by a rule of the project; what it holds at first is of no matter.
+        // An array to lend to the list, by a rule of the project; what it holds at first does not matter.
         let mut list = [Outcome::Done(Verb::Start); 512];
         let mut outcomes = Bounded::new(&mut list);
         run_calls(&mut store, self.calls, &mut outcomes);
@@ -58,7 +58,7 @@ impl Run<'_> {
 pub fn depot_run(script: &[u8], out: &mut [u8]) -> Result<usize, NoRoom>
     ensures { Written (script_text script.now) out.old out.new result }
 {
-    // Lent memory, as above.
+    // An array to lend, as in `on`.
     let mut list = [Call::Start; 512];
     let mut read = Bounded::new(&mut list);
     match script::read_script(script, &mut read) {

@@ -7,12 +7,13 @@ use Rattle.bounded.specs.declared.Bounded.{Bounded}
 use Rattle.bounded.specs.declared.Full.{Full}
 use Rattle.bounded.specs.Lent.{Lent, held, empty_over, extended, added, answered}
 
-pub taken : {T : Type 0} (l : Lent T) (more : List T) → length l.entries + length more ≤ l.room → added l more ≡ extended l more
-taken l more h = cond-true _ _ _ (le-leb _ _ h)
+-- entries that have room are added
+pub added-extended : {T : Type 0} (l : Lent T) (more : List T) → length l.entries + length more ≤ l.room → added l more ≡ extended l more
+added-extended l more h = cond-true _ _ _ (le-leb _ _ h)
 
--- entries that have room are not refused
-pub took : {T : Type 0} (l : Lent T) (more : List T) {r : Result (Unit {0}) Full} → r ≡ answered l more → length l.entries + length more ≤ l.room → IsOk r
-took l more {r} e h = subst IsOk (sym (e ∙ cond-true _ _ _ (le-leb _ _ h))) refl
+-- and are not refused
+pub answered-ok : {T : Type 0} (l : Lent T) (more : List T) {r : Result (Unit {0}) Full} → r ≡ answered l more → length l.entries + length more ≤ l.room → IsOk r
+answered-ok l more {r} e h = subst IsOk (sym (e ∙ cond-true _ _ _ (le-leb _ _ h))) refl
 
 pub extended-append : {T : Type 0} (l : Lent T) (a b : List T) → extended (extended l a) b ≡ extended l (a ++ b)
 extended-append l a b = simp (append_assoc, drop-drop, length-append)

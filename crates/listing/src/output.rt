@@ -52,8 +52,8 @@ pub fn write_listing(outcomes: &[Outcome], out: &mut [u8]) -> Result<usize, NoRo
     Ok(n)
 }
 
-// The line of a fault at the start of `out`, which stays as it was where that does not fit. The code is a number, since
-// the project shows any code, and an enum would ask more of callers.
+// The line of a fault at the start of `out`, which stays as it was where that does not fit. The code is a number: any
+// code can be shown, and an enum would ask more of callers.
 pub fn write_fault(code: u64, line: u64, byte: u64, out: &mut [u8]) -> Result<usize, NoRoom>
     ensures { Written (fault_text code line byte) out.old out.new result }
 {

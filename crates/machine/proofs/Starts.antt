@@ -43,7 +43,7 @@ module _ (X : ObjectModel) (law : Lawful X) where
       let q : eqb X.kind X.kind ≡ true = eq-eqb X.kind X.kind refl in
       let v : ltb s 2 ≡ true = lt-ltb s 2 room.bit in
       let x : X.reads (object_words m.current n s) ≡ Some (state_after X ord) = object-read n s m.current (state_after X ord) k.shows.object in
-      rw (up, d, a, b, c, o, e, f, p, g, q, v, x) refl
+      rw (up, d, a, b, o, e, f, p, g, b, c, q, v, x) refl
 
   finds : (n s : ℕ) (m : MemoryModel) (ord : List Request) → Rests X n s m ord → Finds X (record { table = up_table X n s; memory = m }) ord
   finds n s m ord k = record {

@@ -45,6 +45,10 @@ contents_fit m =
     let n = slice_index m.current 2 in
     (nat_le 1 n && nat_le n 8) && (bytes_eq (line 0 m.current) (contents (slice_index m.current 1) n) && nat_le (lines_used n) (lines m))
 
+-- the number of workers that the memory is for, or the first no
+abbrev pub workers_found : MemoryModel → Result ℕ Refusal
+workers_found m = cond (nat_le 14 (lines m)) (cond (contents_fit m) (Ok (slice_index m.current 2)) (Err WrongContents)) (Err TooFewLines)
+
 module _ (X : ObjectModel) where
   abbrev pub Outcome : Type 0
   Outcome = Reply × Table X
@@ -108,18 +112,23 @@ module _ (X : ObjectModel) where
     working = X.fresh;
   }
 
-  -- what a start finds in the memory: the number of workers and the index, or the first no
-  abbrev pub found : MemoryModel → Result (ℕ × ℕ) Refusal
-  found m =
-      let n = slice_index m.current 2 in
+  -- what a start finds for n workers: the index, or the first no
+  abbrev pub found_for : MemoryModel → ℕ → Result (ℕ × ℕ) Refusal
+  found_for m n =
       let r = slice_index m.current 8 in
-      cond (nat_le 14 (lines m))
-      (cond (contents_fit m)
-      (cond (slice_index m.current 1 == X.kind)
+      cond (slice_index m.current 1 == X.kind)
       (cond (nat_lt r 2)
       (cond (is_some (X.reads (object_words m.current n r)))
       (Ok (n, r))
-      (Err NoPicture)) (Err WrongIndex)) (Err WrongKind)) (Err WrongContents)) (Err TooFewLines)
+      (Err NoPicture)) (Err WrongIndex)) (Err WrongKind)
+
+  abbrev pub then_found : MemoryModel → Result ℕ Refusal → Result (ℕ × ℕ) Refusal
+  then_found m (Ok n) = found_for m n
+  then_found m (Err k) = Err k
+
+  -- what a start finds in the memory: the number of workers and the index, or the first no
+  abbrev pub found : MemoryModel → Result (ℕ × ℕ) Refusal
+  found m = then_found m (workers_found m)
 
   abbrev pub started_at : Table X → Result (ℕ × ℕ) Refusal → Outcome
   started_at t (Ok (n, r)) = (ok, up_table n r)

@@ -1,3 +1,4 @@
+pub mod Folds
 mod Digits
 mod Cuts
 mod Spots

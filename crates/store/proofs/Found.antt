@@ -1,20 +1,19 @@
 -- What a start finds, question by question.
 use Rattle.std.proofs.Common.{◌≡◌, ℕ, ◌+◌, ◌*◌, ◌<◌, ◌≤◌, Bool, true, cond, Some, None, Ok, Err, Option, Result, List, length, is_some, sym, refl, ap, ◌∙◌, inl, inr, arith}
-use Rattle.std.specs.Prelude.{nat_le, nat_lt, nat_eq, slice_index}
+use Rattle.std.specs.Prelude.{nat_lt, nat_eq, slice_index}
 use Rattle.std.specs.Option.{option_map}
 use Rattle.std.proofs.lemmas.Bool.{cases_Bool, ltb-true, cond-true, cond-false, eq-eqb, eqb-true}
-use Rattle.memory.specs.Model.{MemoryModel, lines}
+use Rattle.memory.specs.Model.{MemoryModel}
 use Rattle.objects.specs.Model.{ObjectModel}
 use Rattle.machine.specs.declared.refusal.Refusal.{Refusal}
-use Rattle.machine.specs.declared.refusal.Refusal.TheVariants.{WrongKind, WrongIndex, NoPicture}
+use Rattle.machine.specs.declared.refusal.Refusal.TheVariants.{NoPicture}
 use Rattle.machine.specs.Layout.{lines_used, object_at, object_words}
 use Rattle.machine.specs.Machine.{words_from}
-use Rattle.machine.specs.Calls.{contents_fit, found}
+use Rattle.machine.specs.Calls.{workers_found, found_for, then_found, found}
 use Rattle.machine.proofs.Words.{words_take}
 use Rattle.store.specs.declared.index.Index.{Index}
 use Rattle.store.specs.declared.index.Index.TheVariants.{Zero, One}
 use Rattle.store.specs.Indices.{index_word, index_of}
-use Rattle.store.specs.Found.{workers_found}
 
 -- a word that is an index
 below_two : (i : Index) → nat_lt (index_word i) 2 ≡ true
@@ -43,34 +42,12 @@ some_mapped f (Some x) = refl
 some_mapped f None = refl
 
 module _ (X : ObjectModel) (m : MemoryModel) where
-  -- once the number of workers is found: the kind, the index, the picture
-  abbrev pub found_for : ℕ → Result (ℕ × ℕ) Refusal
-  found_for n =
-      cond (nat_eq (slice_index m.current 1) X.kind)
-      (cond (nat_lt (slice_index m.current 8) 2)
-      (cond (is_some (X.reads (object_words m.current n (slice_index m.current 8))))
-      (Ok (n, slice_index m.current 8)) (Err NoPicture)) (Err WrongIndex)) (Err WrongKind)
-
-  abbrev pub then_found : Result ℕ Refusal → Result (ℕ × ℕ) Refusal
-  then_found (Ok n) = found_for n
-  then_found (Err k) = Err k
-
-  found_first : found X m ≡ then_found (workers_found m)
-  found_first =
-      elim (cases_Bool (nat_le 14 (lines m))) [
-        | inr l ↦ cond-false _ _ _ l ∙ sym (ap then_found (cond-false _ _ _ l))
-        | inl l ↦ elim (cases_Bool (contents_fit m)) [
-          | inl f ↦ cond-true _ _ _ l ∙ cond-true _ _ _ f ∙ sym (ap then_found (cond-true _ _ _ l ∙ cond-true _ _ _ f))
-          | inr f ↦ cond-true _ _ _ l ∙ cond-false _ _ _ f ∙ sym (ap then_found (cond-true _ _ _ l ∙ cond-false _ _ _ f))
-        ]
-      ]
-
-  pub found_from : (r s : Result ℕ Refusal) → r ≡ workers_found m → r ≡ s → found X m ≡ then_found s
-  found_from r s e p = found_first ∙ ap then_found (sym e ∙ p)
+  pub found_from : (r s : Result ℕ Refusal) → r ≡ workers_found m → r ≡ s → found X m ≡ then_found X m s
+  found_from r s e p = ap (then_found X m) (sym e ∙ p)
 
   found_picture : (n : ℕ) (i : Index) (b : Bool) → nat_eq (slice_index m.current 1) X.kind ≡ true → slice_index m.current 8 ≡ index_word i
       → object_at n (index_word i) + 40 ≤ length m.current → is_some (X.reads (words_from m.current (object_at n (index_word i)) 40)) ≡ b
-      → found_for n ≡ cond b (Ok (n, index_word i)) (Err NoPicture)
+      → found_for X m n ≡ cond b (Ok (n, index_word i)) (Err NoPicture)
   found_picture n i b k e room p =
       cond-true _ _ _ k ∙ cond-true _ _ _ (ap (λ (w : ℕ). nat_lt w 2) e ∙ below_two i)
       ∙ ap (λ (w : ℕ). cond (is_some (X.reads (object_words m.current n w))) (Ok (n, w)) (Err NoPicture)) e

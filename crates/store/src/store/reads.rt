@@ -2,9 +2,8 @@
 ghost use Rattle.std.specs.Prelude.{◌≡◌, ◌+◌, ◌*◌, ◌≤◌, length, IfOk, slice_index};
 ghost use Rattle.machine.specs.Layout.{lines_used};
 ghost use Rattle.machine.specs.Machine.{words_from};
-ghost use Rattle.machine.specs.Calls.{found};
+ghost use Rattle.machine.specs.Calls.{workers_found, found};
 ghost use Rattle.store.specs.Indices.{index_of};
-ghost use Rattle.store.specs.Found.{workers_found};
 ghost use Rattle.store.specs.Shown.{found_shown};
 
 use super::Store;

@@ -3,7 +3,7 @@ use Rattle.std.proofs.Common.{◌≡◌, ◌+◌, ◌-◌, ◌<◌, [], ◌∷�
 use Rattle.std.proofs.lemmas.List.{length_push}
 use Rattle.std.specs.Iterator.Adapters.{enumerate_source, enumerate_count}
 use Rattle.bounded.specs.Lent.{Lent, held, extended}
-use Rattle.bounded.proofs.Lents.{taken, extended-append}
+use Rattle.bounded.proofs.Lents.{added-extended, extended-append}
 use Rattle.script.specs.declared.call.Call.{Call}
 use Rattle.script.specs.Readings.{Reading, with_call, calls_left}
 use Rattle.script.specs.Ahead.{pieces_ahead, spot_of, to_come}
@@ -38,7 +38,7 @@ loop-count-preserved c =
     let ahead = to_come s (enumerate_count c.next.new.self) c.push.new.self lines in
     let few : n < 512 = omega (arith, step.1, c.if-count-ge-MOST_CALLS.false) in
     let free : length b.entries < b.room = ltb-true (length b.entries) b.room (sym c.has_room.ensures ∙ c.if-not-has_room.false) in
-    let more : b' ≡ extended b (x ∷ []) = c.push.ensures.after ∙ taken b (x ∷ []) (omega (arith, free)) in
+    let more : b' ≡ extended b (x ∷ []) = c.push.ensures.after ∙ added-extended b (x ∷ []) (omega (arith, free)) in
     let len : length b'.entries ≡ length b.entries + 1 = ap (λ (l : Lent Call). length l.entries) more ∙ length_push b.entries x in
     let fewer : calls_left (enumerate_count c.next.new.self) c.push.new.self ≡ calls_left n list - 1 = ap (λ k. calls_left k c.push.new.self) step.2 ∙ one_fewer n 512 (length b.entries) b.room (length b'.entries) b'.room few free len (ap (λ (l : Lent Call). l.room) more) in
     let some = some_left n 512 (length b.entries) b.room few free in
