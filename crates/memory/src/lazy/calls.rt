@@ -1,5 +1,5 @@
 // The calls of the lazy memory module.
-ghost use Rattle.std.specs.Prelude.{◌≡◌, ◌*◌, ◌/◌, ◌<◌, length, if◌then◌else◌, slice_set};
+ghost use Rattle.std.specs.Prelude.{◌≡◌, ◌*◌, ◌/◌, ◌<◌, ◌≤◌, length, if◌then◌else◌, slice_set};
 ghost use Rattle.memory.specs.Model.{arrivals, way, write};
 ghost use Rattle.memory.specs.Post.{inside_word, stores};
 ghost use Rattle.memory.specs.Calls.{reply, writes};
@@ -20,27 +20,28 @@ impl<'a> Lazy<'a> {
         ensures after { lazy_meaning result ≡ opened memory.old }
         ensures lent { lazy_frame result ≡ framed memory.entry.ghost_name memory.old }
     {
-        let mut module = Lazy {
+        let words = 8 * line_count(memory.len());
+        let mut current = [0; 512];
+        current[..words].copy_from_slice(&memory[..words]);
+        Lazy {
             kept: memory,
-            current: [0; 512],
+            current,
             on_the_way: OnTheWay::none(),
-        };
-        module.current = module.image();
-        module
+        }
     }
 }
 
-impl Lazy<'_> {
-    // The words of the whole lines, as they are kept.
-    fn image(&self) -> [u64; 512]
-        ensures { front self.now.kept.now result ≡ front self.now.kept.now self.now.kept.now }
-    {
-        let words = 8 * self.lines();
-        let mut image = [0; 512];
-        image[..words].copy_from_slice(&self.kept[..words]);
-        image
-    }
+// Copies the words of the whole lines of one image to the other. The first is behind a `&mut`, as a module holds it.
+fn copy_front(from: &&mut [u64], to: &mut [u64])
+    requires { 8 * line_count (length from.now.now) ≤ length to.old }
+    ensures front { front from.now.now to.new ≡ front from.now.now from.now.now }
+    ensures len { length to.new ≡ length to.old }
+{
+    let words = 8 * line_count(from.len());
+    to[..words].copy_from_slice(&from[..words]);
+}
 
+impl Lazy<'_> {
     // Lets the lines of a set arrive.
     #[tactic(auto, using(crate::proofs::Images::in_images, crate::proofs::Images::held_arrivals))]
     fn arrive_all(&mut self, set: LineSet)
@@ -139,7 +140,8 @@ impl Memory for Lazy<'_> {
     }
 
     fn cut(&mut self) {
-        self.current = self.image();
+        let Lazy { kept, current, .. } = self;
+        copy_front(kept, current);
         self.on_the_way = OnTheWay::none();
     }
 }
