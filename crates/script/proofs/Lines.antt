@@ -1,5 +1,5 @@
 -- The lines of a script: how many there are at most, and one line more that is a call.
-use Rattle.std.proofs.Common.{◌≡◌, ℕ, suc, ◌+◌, ◌-◌, ◌^◌, ◌<◌, cond, min, true, ltb, ◌==◌, List, [], ◌∷◌, length, Some, None, Option, Ok, Result, sym, ap, refl, arith}
+use Rattle.std.proofs.Common.{◌≡◌, ℕ, ◌+◌, ◌-◌, ◌^◌, ◌<◌, min, true, ltb, List, [], ◌∷◌, length, Some, None, Option, Ok, Result, sym, arith}
 use Rattle.std.proofs.lemmas.Bool.{lt-ltb}
 use Rattle.std.proofs.lemmas.Bool.Decides.{nat_tests}
 use Rattle.script.specs.declared.call.Call.{Call}
@@ -7,15 +7,11 @@ use Rattle.script.specs.declared.fault.Fault.{Fault}
 use Rattle.script.specs.declared.setup.Setup.{Setup}
 use Rattle.script.specs.declared.words.Part.{Part}
 use Rattle.script.specs.Pieces.{pieces}
-use Rattle.script.specs.Places.{Spot, words_in, spots_at}
+use Rattle.script.specs.Places.{Spot, words_in}
 use Rattle.script.specs.Ahead.{ahead_of}
 use Rattle.script.specs.Calls.{call_of}
 use Rattle.script.specs.Readings.{with_call, calls_of}
-use Rattle.script.proofs.Counts.{length-pieces-le}
-
-length-spots_at : (sep : ℕ) (ws : List (List ℕ)) (line byte : ℕ) → length (spots_at sep line byte ws) ≡ length ws
-length-spots_at sep [] line byte = refl
-length-spots_at sep (w ∷ ws) line byte = ap suc (length-spots_at sep ws (cond (sep == 10) (line + 1) line) (cond (sep == 10) 1 (byte + length w + 1)))
+use Rattle.script.proofs.Counts.{length-spots_at, length-pieces-le}
 
 pub ahead_short : (sep : ℕ) (rest : Option Part) → length (ahead_of sep rest) < 2 ^ 64
 ahead_short sep None = omega arith

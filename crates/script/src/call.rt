@@ -6,7 +6,7 @@ ghost use Rattle.script.specs.Calls.{verb_name, counted, field_of, fields_of, ca
 
 use crate::fault::{Fault, FaultKind};
 use crate::names::{Named, find_named};
-use crate::words::{Part, Pieces, Word, count_words, next_word};
+use crate::words::{Part, Pieces, Word, next_word};
 
 #[derive(Clone, Copy, Debug, PartialEq, Eq)]
 pub enum Call {
@@ -84,12 +84,11 @@ pub(crate) fn read_call(line: Part<'_>) -> Result<Call, Fault>
     ensures { result ≡ call_of line.entry.line (words_in line.entry.line line.entry.bytes.now) }
 {
     let at = line.line;
-    let n = count_words(line);
     let mut words = Pieces::words(line);
     let verb = next_word(&mut words)
         .and_then(|word| find_named(&VERBS, word.bytes()))
         .ok_or(FaultKind::UnknownWord.at_line(at))?;
-    if !has_count(verb, n) {
+    if !has_count(verb, 1 + words.count_ahead()) {
         return Err(FaultKind::FieldCount.at_line(at));
     }
     fields(&mut words, at, verb)

@@ -64,11 +64,11 @@ fn named_setup(words: &mut Pieces<'_>) -> Option<Setup>
 pub(crate) fn read_setup(line: Part<'_>) -> Option<Setup>
     ensures { result ≡ setup_of (words_in line.entry.line line.entry.bytes.now) }
 {
-    if count_words(line) != 3 {
-        return None;
-    }
     let mut words = Pieces::words(line);
     if next_word(&mut words)?.bytes() != b"store".as_slice() {
+        return None;
+    }
+    if count_words(line) != 3 {
         return None;
     }
     named_setup(&mut words)

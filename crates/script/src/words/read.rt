@@ -70,11 +70,22 @@ pub(crate) fn next_word<'a>(words: &mut Pieces<'a>) -> Option<Word<'a>>
     words.next().map(Word::from)
 }
 
+// How many pieces a part has.
+fn count_pieces(part: Part<'_>, sep: u8) -> usize
+    ensures { result ≡ length (ahead_of sep (Some part.entry)) }
+{
+    part.bytes
+        .iter()
+        .map(|b| usize::from(*b == sep))
+        .sum::<usize>()
+        + 1
+}
+
 // How many words a line has.
 pub(crate) fn count_words(line: Part<'_>) -> usize
     ensures { result ≡ length (words_in line.entry.line line.entry.bytes.now) }
 {
-    line.bytes.iter().filter(|b| **b == b' ').count() + 1
+    count_pieces(line, b' ')
 }
 
 impl<'a> Pieces<'a> {
@@ -104,6 +115,16 @@ impl<'a> Pieces<'a> {
                 byte: 1,
             }),
             sep: b'\n',
+        }
+    }
+
+    // How many pieces are still to come.
+    pub(crate) fn count_ahead(&self) -> usize
+        ensures { result ≡ length (words_ahead self.now) }
+    {
+        match self.rest {
+            Some(part) => count_pieces(part, self.sep),
+            None => 0,
         }
     }
 }

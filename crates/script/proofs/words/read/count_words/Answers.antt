@@ -1,9 +1,9 @@
--- A line has one word more than spaces.
-use Rattle.std.proofs.Common.{◌≡◌, ◌+◌, ◌==◌, count_by, sym, ap, ◌∙◌, rules}
-use Rattle.script.proofs.Counts.{length-words_in}
+-- The words of a line are its pieces at each space.
+use Rattle.std.proofs.Common.{sym, ◌∙◌}
+use Rattle.script.proofs.Counts.{length-spots, length-words_in}
 use Rattle.script.proofs.words.read.count_words.Goals as goal
 
 pub returns : goal.returns
 returns c =
-    let n : c.count.result ≡ count_by (λ b. b == 32) c.args.line.bytes.now = search rules in
-    ap (λ n. n + 1) n ∙ sym (length-words_in c.args.line.line c.args.line.bytes.now)
+    let line = c.args.line in
+    c.count_pieces.ensures ∙ length-spots 32 line.line line.byte line.bytes.now ∙ sym (length-words_in line.line line.bytes.now)
