@@ -21,9 +21,10 @@ fn push_number(line: &mut Line, n: u64)
     line.push_str(Buffer::new().format(n));
 }
 
-// The line of an outcome.
+// The line of an outcome, which has at most 64 bytes with its end.
 pub(crate) fn line_of(outcome: Outcome) -> Line
-    ensures { result.bytes ≡ line_text outcome }
+    ensures text { result.bytes ≡ line_text outcome }
+    ensures short { array_string_len result ≤ 64 }
 {
     let mut line = Line::new();
     match outcome {

@@ -19,7 +19,7 @@ loop-o-preserved c =
     let len : length (b.entries ++ (line os i ++ rest)) ≡ length (listing_text os) = ap (λ (l : Lent ℕ). length l.entries) (parts ∙ ap (λ (l : Lent ℕ). extended l (listing_text os)) c.new-text.ensures) in
     let room : b.room ≡ length c.args.out.now = ap (λ (l : Lent ℕ). l.room) (parts ∙ ap (λ (l : Lent ℕ). extended l (listing_text os)) c.new-text.ensures) in
     let fits : length b.entries + length (line os i) ≤ b.room = omega (arith, length-append b.entries (line os i ++ rest), length-append (line os i) rest, len, room, (sized_fits _ _ _ c.in_ok-n.ensures).0) in
-    ap (λ l. extended l rest) (c.extend.ensures.after ∙ ap (added b) (c.as_bytes.ensures.value ∙ c.deref.ensures.0 ∙ c.line_of.ensures) ∙ added-extended b (line os i) fits) ∙ extended-append b (line os i) rest ∙ parts
+    ap (λ l. extended l rest) (c.extend.ensures.after ∙ ap (added b) (c.as_bytes.ensures.value ∙ c.deref.ensures.0 ∙ c.line_of.ensures.text) ∙ added-extended b (line os i) fits) ∙ extended-append b (line os i) rest ∙ parts
 
 pub returns : goal.returns
 returns c =
