@@ -5,7 +5,7 @@ ghost use Rattle.script.specs.Ahead.{words_ahead};
 ghost use Rattle.script.specs.Setups.{object_name, memory_name, object_of, memory_of, setup_from, setup_of};
 
 use crate::names::{Named, find_named};
-use crate::words::{Part, Pieces, count_words, next_word};
+use crate::words::{Part, Pieces, next_word};
 
 #[derive(Clone, Copy, Debug, PartialEq, Eq)]
 pub enum ObjectKind {
@@ -68,7 +68,7 @@ pub(crate) fn read_setup(line: Part<'_>) -> Option<Setup>
     if next_word(&mut words)?.bytes() != b"store".as_slice() {
         return None;
     }
-    if count_words(line) != 3 {
+    if words.count_ahead() != 2 {
         return None;
     }
     named_setup(&mut words)

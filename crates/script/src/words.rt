@@ -3,7 +3,7 @@ ghost use Rattle.std.specs.Prelude.{◌+◌, ◌^◌, ◌<◌, length};
 
 mod read;
 
-pub(crate) use read::{count_words, next_word};
+pub(crate) use read::next_word;
 
 // A part of the script, with the line and the byte in that line at which it begins, both counted from 1.
 #[derive(Clone, Copy, Debug, PartialEq, Eq)]

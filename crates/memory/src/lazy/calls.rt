@@ -20,9 +20,8 @@ impl<'a> Lazy<'a> {
         ensures after { lazy_meaning result ≡ opened memory.old }
         ensures lent { lazy_frame result ≡ framed memory.entry.ghost_name memory.old }
     {
-        let words = 8 * line_count(memory.len());
         let mut current = [0; 512];
-        current[..words].copy_from_slice(&memory[..words]);
+        copy_front(memory, &mut current);
         Lazy {
             kept: memory,
             current,
@@ -31,14 +30,23 @@ impl<'a> Lazy<'a> {
     }
 }
 
-// Copies the words of the whole lines of one image to the other. The first is behind a `&mut`, as a module holds it.
-fn copy_front(from: &&mut [u64], to: &mut [u64])
-    requires { 8 * line_count (length from.now.now) ≤ length to.old }
-    ensures front { front from.now.now to.new ≡ front from.now.now from.now.now }
+// Copies the words of the whole lines of one image to the other.
+fn copy_front(from: &[u64], to: &mut [u64])
+    requires { 8 * line_count (length from.now) ≤ length to.old }
+    ensures front { front from.now to.new ≡ front from.now from.now }
     ensures len { length to.new ≡ length to.old }
 {
     let words = 8 * line_count(from.len());
     to[..words].copy_from_slice(&from[..words]);
+}
+
+// The same of an image that stands behind a `&mut`, as a module holds the kept one.
+fn copy_kept(kept: &&mut [u64], current: &mut [u64])
+    requires { 8 * line_count (length kept.now.now) ≤ length current.old }
+    ensures front { front kept.now.now current.new ≡ front kept.now.now kept.now.now }
+    ensures len { length current.new ≡ length current.old }
+{
+    copy_front(kept, current);
 }
 
 impl Lazy<'_> {
@@ -141,7 +149,7 @@ impl Memory for Lazy<'_> {
 
     fn cut(&mut self) {
         let Lazy { kept, current, .. } = self;
-        copy_front(kept, current);
+        copy_kept(kept, current);
         self.on_the_way = OnTheWay::none();
     }
 }

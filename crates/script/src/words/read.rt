@@ -70,7 +70,7 @@ pub(crate) fn next_word<'a>(words: &mut Pieces<'a>) -> Option<Word<'a>>
     words.next().map(Word::from)
 }
 
-// How many pieces a part has.
+// How many pieces a part has. By a sum: to count what a filter lets through took a sixth more instructions on a long line.
 fn count_pieces(part: Part<'_>, sep: u8) -> usize
     ensures { result ≡ length (ahead_of sep (Some part.entry)) }
 {
@@ -79,13 +79,6 @@ fn count_pieces(part: Part<'_>, sep: u8) -> usize
         .map(|b| usize::from(*b == sep))
         .sum::<usize>()
         + 1
-}
-
-// How many words a line has.
-pub(crate) fn count_words(line: Part<'_>) -> usize
-    ensures { result ≡ length (words_in line.entry.line line.entry.bytes.now) }
-{
-    count_pieces(line, b' ')
 }
 
 impl<'a> Pieces<'a> {
