@@ -28,7 +28,7 @@ length-spots_at sep (w ∷ ws) line byte = ap suc (length-spots_at sep ws (cond 
 pub length-spots : (sep line byte : ℕ) (bs : List ℕ) → length (spots_at sep line byte (pieces sep ([] ∷ []) bs)) ≡ count_by (λ b. b == sep) bs + 1
 length-spots sep line byte bs = length-spots_at sep (pieces sep ([] ∷ []) bs) line byte ∙ length-pieces sep bs
 
-pub length-words_in : (line : ℕ) (bs : List ℕ) → length (words_in line bs) ≡ count_by (λ b. b == 32) bs + 1
+length-words_in : (line : ℕ) (bs : List ℕ) → length (words_in line bs) ≡ count_by (λ b. b == 32) bs + 1
 length-words_in line bs = length-words_at line 1 (words_of bs) ∙ length-pieces 32 bs
 
 one_and_rest : {X : Type 0} (xs : List X) (n : ℕ) → length xs ≡ n + 1 → 1 + length (rest_of xs) ≡ length xs
@@ -40,4 +40,4 @@ pub word_and_rest : (line : ℕ) (bs : List ℕ) → 1 + length (rest_of (words_
 word_and_rest line bs = one_and_rest (words_in line bs) (count_by (λ b. b == 32) bs) (length-words_in line bs)
 
 pub length-words-le : (line : ℕ) (bs : List ℕ) → length (words_in line bs) ≤ length bs + 1
-length-words-le line bs = omega (arith, length-words_in line bs, count_by-le-length (λ b. b == 32) bs)
+length-words-le line bs = omega (arith, length-words_at line 1 (words_of bs), length-pieces-le 32 bs)
